@@ -1,0 +1,4 @@
+pub mod Name
+pub mod Term
+pub mod Numbering
+pub mod Events

@@ -1,0 +1,42 @@
+-- Phrases without pointers: what clauses see of a `Phrase`.
+use Rattle.std.specs.Prelude.{ℕ, List, Bool, true, false}
+use Rattle.phrase_tree.specs.declared.measurement.Asp.{Asp}
+use Rattle.phrase_tree.specs.declared.phrase.Split.{Split}
+use Rattle.phrase_tree.specs.declared.phrase.Phrase.{Phrase, Cpy, Sig, Hsh, Usm, Kim, At', Then', Seq', Par'}
+
+-- a phrase (POST 2019): five leaves, a request to a place, a chain, and the two branches
+pub data Term : Type 0 where
+  cpy : Term
+  sig : Term
+  hsh : Term
+  usm : Asp → Term
+  -- the target, and the measurement
+  kim : List ℕ → Asp → Term
+  -- the place that is asked, and what it runs
+  at : List ℕ → Term → Term
+  chain : Term → Term → Term
+  seq : Split → Term → Term → Term
+  par : Split → Term → Term → Term
+
+-- the phrase that a tree of the program stands for
+abbrev pub term : Phrase → Term
+term Cpy = cpy
+term Sig = sig
+term Hsh = hsh
+term (Usm asp) = usm asp
+term (Kim target asp) = kim target asp
+term (At' place p body) = at place (term body)
+term (Then' p left q right) = chain (term left) (term right)
+term (Seq' split p left q right) = seq split (term left) (term right)
+term (Par' split p left q right) = par split (term left) (term right)
+
+-- a branch, sequential or parallel
+abbrev pub is_branch : Term → Bool
+is_branch (seq split left right) = true
+is_branch (par split left right) = true
+is_branch _ = false
+
+-- a chain
+abbrev pub is_chain : Term → Bool
+is_chain (chain left right) = true
+is_chain _ = false

@@ -1,0 +1,19 @@
+//! Phrases of Copland, the language of layered attestation, as trees: names, measurements, the
+//! nine forms of a phrase, and the numbers of their events. After Ramsdell et al., Orchestrating
+//! Layered Attestations, POST 2019; the numbers that count from 0 are this project's own.
+//!
+//! Clauses see a phrase by its pointer-free twin, `term phrase` of `specs/Term.antt`, and all that
+//! is said of phrases, here and above, goes by cases on the twin.
+#![tactic(auto)]
+
+mod lists;
+mod measurement;
+mod memory;
+mod name;
+mod phrase;
+
+pub use lists::{Names, Trace};
+pub use measurement::{Arg, Args, Asp};
+pub use memory::NoMemory;
+pub use name::{Name, Place};
+pub use phrase::{Phrase, Split};
