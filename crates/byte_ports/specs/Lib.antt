@@ -1,0 +1,3 @@
+pub mod Port
+pub mod Reading
+pub mod Writing
