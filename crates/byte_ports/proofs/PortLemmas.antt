@@ -1,6 +1,6 @@
 -- What a port gave or took piece after piece is the pieces joined.
-use Rattle.std.proofs.Common.{◌≡◌, ◌+◌, ◌-◌, ◌≤◌, ℕ, List, [], ◌∷◌, ◌++◌, length, take, drop, refl, sym, ap, ◌∙◌, subst, append_assoc, length-drop}
-use Rattle.std.proofs.lemmas.List.{append-nil, take-append-drop}
+use Rattle.std.proofs.Common.{◌≡◌, ◌+◌, ◌-◌, ◌<◌, ℕ, zero, suc, List, [], ◌++◌, length, take, drop, refl, sym, ap, ◌∙◌, subst, append_assoc, length-drop, arith}
+use Rattle.std.proofs.lemmas.List.{append-nil, take-append-drop, drop-drop}
 use Rattle.std.proofs.Math.Seq.{take-add, take-length}
 use Rattle.std.specs.Prelude.{Option, None, Some}
 use Rattle.byte_ports.specs.Port.{Gave, Took}
@@ -50,3 +50,16 @@ Gave-more before middle after old new filled count t kept u =
 pub take-drop-rest : (n : ℕ) (bytes : List ℕ) → take (length bytes - n) (drop n bytes) ≡ drop n bytes
 take-drop-rest n bytes =
     subst (λ (k : ℕ). take k (drop n bytes) ≡ drop n bytes) (length-drop n bytes) (take-length (drop n bytes))
+
+-- what a slice from a place on gives at its front, and what stands behind it
+pub given-front : (at count : ℕ) (bytes left front : List ℕ) → left ≡ bytes → front ≡ take count (take (length left - at) (drop at left)) → drop at bytes ≡ front ++ drop (at + count) bytes
+given-front at count bytes left front same is =
+    sym
+    (ap (λ piece. piece ++ drop (at + count) bytes) (is ∙ ap (λ piece. take count piece) (take-drop-rest at left) ∙ ap (λ piece. take count (drop at piece)) same)
+    ∙ ap (λ rest. take count (drop at bytes) ++ rest) (sym (drop-drop count at bytes))
+    ∙ take-append-drop count (drop at bytes))
+
+-- a call that may have some bytes and has none may have had none
+pub none-of : (len count : ℕ) → (0 < len → 0 < count) → count ≡ 0 → len ≡ 0
+none-of zero count some none = refl
+none-of (suc len) count some none = absurd (omega (arith, some (omega arith), none))

@@ -1,3 +1,4 @@
 pub mod Port
 pub mod Reading
 pub mod Writing
+pub mod Memory

@@ -1,5 +1,5 @@
 -- Reading a source to its end.
-use Rattle.std.specs.Prelude.{◌≡◌, ◌<◌, ◌≤◌, ℕ, List, length, Option, Result, Ok, Err}
+use Rattle.std.specs.Prelude.{◌<◌, ◌≤◌, ℕ, List, length, Option, Result, Ok, Err}
 use Rattle.byte_ports.specs.Port.{Gave, IsAtEnd}
 use Rattle.byte_ports.specs.declared.reading.ReadAllError.{ReadAllError}
 use Rattle.byte_ports.specs.declared.reading.ReadAllError.TheVariants.{ReadFault, TooLong, NoMemory}

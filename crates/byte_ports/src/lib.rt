@@ -7,11 +7,15 @@
 #![tactic(auto)]
 
 mod bytes;
+mod memory;
 mod port;
 mod reading;
+mod standard;
 mod writing;
 
 pub use bytes::Bytes;
+pub use memory::{Behaviour, MemSink, MemSource};
 pub use port::{PortFailed, Sink, Source};
 pub use reading::{ReadAllError, read_all};
+pub use standard::{StdSink, StdSource};
 pub use writing::{WriteFault, write_all_of};

@@ -60,7 +60,11 @@ fn make_room(buffer: &mut Vec<u8>, filled: usize) -> Result<(), AllocError>
 }
 
 /// Reads into the buffer behind what is filled.
-fn read_more<S: Source>(source: &mut S, buffer: &mut Vec<u8>, filled: usize) -> Result<usize, PortFailed>
+fn read_more<S: Source>(
+    source: &mut S,
+    buffer: &mut Vec<u8>,
+    filled: usize,
+) -> Result<usize, PortFailed>
     requires { filled < length buffer.old.items }
     ensures count { IfOk result (λ count. filled + count ≤ length buffer.new.items) }
     ensures kept { take filled buffer.new.items ≡ take filled buffer.old.items }
@@ -71,7 +75,11 @@ fn read_more<S: Source>(source: &mut S, buffer: &mut Vec<u8>, filled: usize) -> 
     read_into(source, buffer.as_mut_slice(), filled)
 }
 
-fn read_into<S: Source>(source: &mut S, buffer: &mut [u8], filled: usize) -> Result<usize, PortFailed>
+fn read_into<S: Source>(
+    source: &mut S,
+    buffer: &mut [u8],
+    filled: usize,
+) -> Result<usize, PortFailed>
     requires { filled < length buffer.old }
     ensures count { IfOk result (λ count. filled + count ≤ length buffer.new) }
     ensures kept { take filled buffer.new ≡ take filled buffer.old }

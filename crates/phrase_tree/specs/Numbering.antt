@@ -26,8 +26,8 @@ depth (kim target asp) = 0
 depth (at place body) = 1 + depth body
 depth (chain left right) =
     max
-      (depth left + (if is_branch left then 1 else 0))
-      (depth right + (if is_branch right || is_chain right then 1 else 0))
+    (depth left + (if is_branch left then 1 else 0))
+    (depth right + (if is_branch right || is_chain right then 1 else 0))
 depth (seq split left right) =
     max (depth left + (if is_branch left then 1 else 0)) (depth right + (if is_branch right then 1 else 0))
 depth (par split left right) =

@@ -5,8 +5,7 @@ use Rattle.byte_ports.proofs.writing.write_all_of.Goals as goal
 pub loop-written-preserved : goal.loop-written-preserved
 loop-written-preserved g c =
     let rest = take-drop-rest c.loop-written.written c.args.bytes.now in
-    let count = rw rest at c.in-Ok.ensures.count in
-    (
+    let count = rw rest at c.in-Ok.ensures.count in (
       omega (arith, count, length-drop c.loop-written.written c.args.bytes.now),
       Took-more _ _ _ c.args.bytes.now c.loop-written.written c.in-Ok.count c.loop-written.invariant.1 (rw rest at c.in-Ok.ensures.bytes),
       omega arith,

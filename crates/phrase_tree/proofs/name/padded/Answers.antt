@@ -6,4 +6,4 @@ use Rattle.phrase_tree.proofs.name.padded.Goals as goal
 pub returns : goal.returns
 returns c =
     rw (c.copy_from_slice.ensures.after, c.zeros-padded.ensures)
-      (ap (λ zeros. c.args.text.now ++ zeros) (drop-replicate (length c.args.text.now) 32 0))
+    (ap (λ zeros. c.args.text.now ++ zeros) (drop-replicate (length c.args.text.now) 32 0))
