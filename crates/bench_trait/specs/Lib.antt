@@ -1,0 +1,3 @@
+pub mod Artefacts
+pub mod Asking
+pub mod Bench

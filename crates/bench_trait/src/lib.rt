@@ -1,0 +1,13 @@
+//! What measures: benches, the questions that they are asked, and the artefacts of a job. A bench is
+//! known by three relations that its value fixes: which answers it gives, which faults it fails with,
+//! and which questions it may leave for want of memory. Code generic over a bench can show none of
+//! them but by asking it, so it can't make up an answer.
+#![tactic(auto)]
+
+mod artefacts;
+mod ask;
+mod bench;
+
+pub use artefacts::{Artefact, ArtefactBook, BookError};
+pub use ask::{Ask, AskKind};
+pub use bench::{Bench, BenchFault, MeasureError};
