@@ -1,5 +1,5 @@
 -- Look-ups in a book of artefacts, and its index.
-use Rattle.std.proofs.Common.{◌≡◌, ℕ, suc, ◌+◌, ◌<◌, Bool, true, false, cond, List, [], ◌∷◌, ◌++◌, length, get_or, refl, sym, ap, ◌∙◌, subst, arith}
+use Rattle.std.proofs.Common.{◌≡◌, ℕ, suc, ◌<◌, Bool, true, false, cond, List, [], ◌∷◌, ◌++◌, length, get_or, refl, sym, ap, ◌∙◌, subst, arith}
 use Rattle.std.specs.Prelude.{◌&&◌, Option, None, Some, nat_eq}
 use Rattle.std.specs.Option.{option_map}
 use Rattle.std.specs.Ordering.{is_eq, nat_cmp, ordering_then}
@@ -20,8 +20,8 @@ is_eq-ordering_then Greater second = refl
 pub is_eq-key_cmp : (artefact : Artefact) (place name : List ℕ) → is_eq (key_cmp (artefact.place, artefact.name) (place, name)) ≡ is_artefact place name artefact
 is_eq-key_cmp artefact place name =
     is_eq-ordering_then (slice_cmp nat_cmp artefact.place place) (slice_cmp nat_cmp artefact.name name)
-      ∙ ap (λ test. test && is_eq (slice_cmp nat_cmp artefact.name name)) (is_eq-slice_cmp artefact.place place)
-      ∙ ap (λ test. pointwise nat_eq artefact.place place && test) (is_eq-slice_cmp artefact.name name)
+    ∙ ap (λ test. test && is_eq (slice_cmp nat_cmp artefact.name name)) (is_eq-slice_cmp artefact.place place)
+    ∙ ap (λ test. pointwise nat_eq artefact.place place && test) (is_eq-slice_cmp artefact.name name)
 
 and_parts : (first second : Bool) → (first && second) ≡ true → (first ≡ true) × (second ≡ true)
 and_parts true second h = (refl, h)
@@ -51,7 +51,7 @@ index-append_new [] new place name h absent = ap (λ test. cond {A = Option ℕ}
 index-append_new (artefact ∷ rest) new place name h absent =
     let parts = step_none (is_artefact place name artefact) (artefact_index rest place name) absent in
     ap (λ test. cond test (Some 0) (option_map suc (artefact_index (rest ++ new ∷ []) place name))) parts.0
-      ∙ ap (λ found. option_map suc found) (index-append_new rest new place name h parts.1)
+    ∙ ap (λ found. option_map suc found) (index-append_new rest new place name h parts.1)
 
 append_by_test : (entries : List Artefact) (new : Artefact) (place name : List ℕ) → artefact_index entries new.place new.name ≡ None → (test : Bool) → is_artefact place name new ≡ test → cond test (Some (length entries)) (artefact_index entries place name) ≡ artefact_index (entries ++ new ∷ []) place name
 append_by_test entries new place name absent false is = sym (index-append_other entries new place name is)

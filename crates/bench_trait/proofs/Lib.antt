@@ -1,1 +1,3 @@
 pub mod BookLemmas
+pub mod SeekLemmas
+pub mod DigestLemmas

@@ -1,3 +1,5 @@
 pub mod Artefacts
 pub mod Asking
 pub mod Bench
+pub mod Digest
+pub mod Seeking

@@ -6,8 +6,12 @@
 
 mod artefacts;
 mod ask;
+mod asking;
 mod bench;
+mod digest;
 
 pub use artefacts::{Artefact, ArtefactBook, BookError};
 pub use ask::{Ask, AskKind};
+pub use asking::ask_of;
 pub use bench::{Bench, BenchFault, MeasureError};
+pub use digest::DigestBench;
