@@ -25,3 +25,8 @@ after_call old faults = record old { calls = min (old.calls + 1) last_count; fau
 abbrev pub Calls : Behaviour → Behaviour → Result ℕ PortFailed → ℕ → Type 0
 Calls old new (Ok count) len = ¬ (Contains old.failing old.calls) × (count ≡ min len old.most) × (new ≡ after_call old old.faults)
 Calls old new (Err failed) len = Contains old.failing old.calls × (new ≡ after_call old (min (old.faults + 1) last_count))
+
+-- a call for some bytes of a sink that takes memory: as above, and it may fail for want of memory too
+abbrev pub CallsForMemory : Behaviour → Behaviour → Result ℕ PortFailed → ℕ → Type 0
+CallsForMemory old new (Ok count) len = Calls old new (Ok count) len
+CallsForMemory old new (Err failed) len = new ≡ after_call old (min (old.faults + 1) last_count)

@@ -1,4 +1,5 @@
-ghost use Rattle.std.specs.Prelude.{◌≡◌, ◌+◌, ◌<◌, ◌≤◌, [], length, take, Some, IfOk, min};
+ghost use Rattle.std.specs.Prelude.{◌≡◌, ◌+◌, ◌<◌, ◌≤◌, [], length, take, Some, IfOk, OnErr, min};
+ghost use Rattle.byte_ports.specs.Port.{Reads, Rose, Writes};
 
 use crate::port::{PortFailed, Sink, Source};
 use std::alloc::Global;
@@ -124,7 +125,16 @@ impl Source for MemSource {
 
     ghost faults = { λ s. s.behaviour.faults };
 
-    fn read(&mut self, buf: &mut [u8]) -> Result<usize, PortFailed> {
+    ghost use Rattle.byte_ports.specs.Memory.{Calls};
+
+    fn read(&mut self, buf: &mut [u8]) -> Result<usize, PortFailed>
+        requires { 0 < length buf.old }
+        ensures count { IfOk result (λ count. count ≤ length buf.new) }
+        ensures bytes { Reads (Some self.old.bytes) (Some self.new.bytes) result buf.new }
+        ensures faults { self.old.behaviour.faults ≤ self.new.behaviour.faults }
+        ensures failed { OnErr result (Rose self.old.behaviour.faults self.new.behaviour.faults) }
+        ensures called { Calls self.old.behaviour self.new.behaviour result (min (length buf.old) (length self.old.bytes)) }
+    {
         let left = self.bytes.len() - self.at;
         let count = self.behaviour.call(buf.len().min(left))?;
         copy_front(buf, &self.bytes[self.at..], count);
@@ -188,7 +198,17 @@ impl Sink for MemSink {
 
     ghost faults = { λ s. s.behaviour.faults };
 
-    fn write(&mut self, piece: &[u8]) -> Result<usize, PortFailed> {
+    ghost use Rattle.byte_ports.specs.Memory.{CallsForMemory};
+
+    fn write(&mut self, piece: &[u8]) -> Result<usize, PortFailed>
+        requires { 0 < length piece.now }
+        ensures count { IfOk result (λ count. count ≤ length piece.now) }
+        ensures some { IfOk result (λ count. 0 < count) }
+        ensures bytes { Writes (Some self.old.bytes) (Some self.new.bytes) result piece.now }
+        ensures faults { self.old.behaviour.faults ≤ self.new.behaviour.faults }
+        ensures failed { OnErr result (Rose self.old.behaviour.faults self.new.behaviour.faults) }
+        ensures called { CallsForMemory self.old.behaviour self.new.behaviour result (length piece.now) }
+    {
         let count = self.behaviour.call(piece.len())?;
         if self.bytes.extend_from_slice(&piece[..count]).is_err() {
             return Err(self.behaviour.fail());

@@ -12,6 +12,10 @@ pub enum Arg {
 }
 
 impl Default for Arg {
+    ghost use Rattle.phrase_tree.specs.declared.measurement.Arg.{Arg};
+
+    ghost is_default = { λ arg. arg ≡ Arg.Number 0 };
+
     fn default() -> Arg {
         Arg::Number(0)
     }
