@@ -1,3 +1,9 @@
 //! Keys of places and HMAC-SHA-256 (RFC 2104, FIPS 198-1): the code of a message under a key,
 //! however the message was cut, and the seal and hash that stand in evidence.
 #![tactic(auto)]
+
+mod key;
+mod ring;
+
+pub use key::{KEY_BYTES, Key, LEAST_KEY_BYTES};
+pub use ring::KeyRing;

@@ -1,0 +1,77 @@
+ghost use Rattle.std.specs.Prelude.{◌≡◌, ◌≤◌, ◌-◌, ◌++◌, length, replicate};
+ghost use Rattle.std.specs.Option.{SomeIff};
+ghost use Rattle.seal_hmac.specs.Keys.{IsKey};
+
+use std::marker::Model;
+
+/// The least length of a key, in bytes.
+pub const LEAST_KEY_BYTES: usize = 16;
+
+/// The greatest length of a key, in bytes.
+pub const KEY_BYTES: usize = 128;
+
+/// A key of 16 to 128 bytes, kept inline.
+#[derive(Clone, Copy)]
+pub struct Key {
+    padded: [u8; 128],
+    len: u8,
+}
+
+impl Model for Key {
+    ghost use Rattle.std.specs.Prelude.{ℕ, List, ◌++◌, ◌-◌, length, replicate, take};
+    ghost use Rattle.seal_hmac.specs.Keys.{IsPaddedKey, padded_again, length_again};
+
+    ghost Value = { List ℕ };
+
+    ghost view = { λ key. take key.len key.padded };
+
+    ghost invariant = { λ key. IsPaddedKey key.len key.padded };
+
+    ghost inverse = { λ bytes. record { padded = bytes ++ replicate (128 - length bytes) 0; len = length bytes } };
+
+    ghost inverse_ok = { λ key h i. record {
+      padded = padded_again key.len key.padded h i;
+      len = length_again key.len key.padded h i;
+    } };
+}
+
+fn zeros<const N: usize>() -> [u8; N]
+    ensures { result ≡ replicate N 0 }
+{
+    [0; N]
+}
+
+fn padded(bytes: &[u8]) -> [u8; 128]
+    requires { length bytes.now ≤ 128 }
+    ensures { result ≡ bytes.now ++ replicate (128 - length bytes.now) 0 }
+{
+    let mut padded = zeros::<128>();
+    padded[..bytes.len()].copy_from_slice(bytes);
+    padded
+}
+
+impl Key {
+    /// The key of these bytes; none exactly where they are not 16 to 128.
+    pub fn read(bytes: &[u8]) -> Option<Key>
+        ensures { SomeIff result (IsKey bytes.now) bytes.now }
+    {
+        if bytes.len() < LEAST_KEY_BYTES {
+            return None;
+        }
+        if bytes.len() > KEY_BYTES {
+            return None;
+        }
+        Some(Key {
+            padded: padded(bytes),
+            len: bytes.len() as u8,
+        })
+    }
+
+    /// The key's bytes.
+    pub fn bytes(&self) -> &[u8]
+        ensures bytes { result.now ≡ self.now }
+        ensures key { IsKey self.now }
+    {
+        &self.padded[..self.len as usize]
+    }
+}
