@@ -1,7 +1,8 @@
-ghost use Rattle.std.specs.Prelude.{◌≡◌, ◌≤◌, ◌-◌, ◌++◌, length, replicate};
+ghost use Rattle.std.specs.Prelude.{◌≡◌};
 ghost use Rattle.std.specs.Option.{SomeIff};
 ghost use Rattle.seal_hmac.specs.Keys.{IsKey};
 
+use crate::bytes::padded;
 use std::marker::Model;
 
 /// The least length of a key, in bytes.
@@ -33,21 +34,6 @@ impl Model for Key {
       padded = padded_again key.len key.padded h i;
       len = length_again key.len key.padded h i;
     } };
-}
-
-fn zeros<const N: usize>() -> [u8; N]
-    ensures { result ≡ replicate N 0 }
-{
-    [0; N]
-}
-
-fn padded(bytes: &[u8]) -> [u8; 128]
-    requires { length bytes.now ≤ 128 }
-    ensures { result ≡ bytes.now ++ replicate (128 - length bytes.now) 0 }
-{
-    let mut padded = zeros::<128>();
-    padded[..bytes.len()].copy_from_slice(bytes);
-    padded
 }
 
 impl Key {

@@ -2,8 +2,16 @@
 //! however the message was cut, and the seal and hash that stand in evidence.
 #![tactic(auto)]
 
+mod bytes;
+mod code;
+mod digester;
+mod hashers;
 mod key;
 mod ring;
 
+pub use bytes::same;
+pub use code::mac;
+pub use digester::{Digester, hash, seal, seal_mac};
+pub use hashers::Mac;
 pub use key::{KEY_BYTES, Key, LEAST_KEY_BYTES};
 pub use ring::KeyRing;
