@@ -15,7 +15,7 @@ pub data Kind : Type 0 where
   hashing : Kind
 
 -- a digest of that kind is in the making, and these bytes of the value were fed
-abbrev pub IsMaking : Kind → List ℕ → Making → Type 0
+unfoldable pub IsMaking : Kind → List ℕ → Making → Type 0
 IsMaking (sealing key place nonce event) bytes (Seal mac) = Feeds key (sealed_message place nonce event bytes) mac
 IsMaking (sealing key place nonce event) bytes (Hash hasher) = ⊥
 IsMaking hashing bytes (Seal mac) = ⊥

@@ -1,7 +1,7 @@
 ghost use Rattle.std.specs.Prelude.{◌≡◌, ◌≤◌, ◌-◌, ◌++◌, length, map, replicate, bit_xor, IsTrue, ◌↔◌};
 ghost use Rattle.seal_hmac.specs.Hmac.{masked};
 
-fn zeros<const N: usize>() -> [u8; N]
+pub(crate) fn zeros<const N: usize>() -> [u8; N]
     ensures { result ≡ replicate N 0 }
 {
     [0; N]

@@ -51,6 +51,7 @@ impl Digester {
     }
 
     /// Begins a seal under the key with which that `Mac` was freshly made.
+    #[tactic(auto, unfolding(crate::specs::Digests::IsMaking))]
     pub fn seal_with(keyed: Mac, place: Place, nonce: &[u8; 16], event: u32) -> Digester
         ensures { (key : List ℕ) → Feeds key [] keyed → Digests (sealing key place nonce.now event) [] result }
     {
@@ -60,6 +61,7 @@ impl Digester {
     }
 
     /// Begins a hash.
+    #[tactic(auto, unfolding(crate::specs::Digests::IsMaking))]
     pub fn hash() -> Digester
         ensures { Digests hashing [] result }
     {
@@ -69,6 +71,7 @@ impl Digester {
     }
 
     /// Feeds the next bytes of the value.
+    #[tactic(auto, unfolding(crate::specs::Digests::IsMaking))]
     pub fn update(&mut self, bytes: &[u8])
         ensures { (kind : Kind) (fed : List ℕ) → Digests kind fed self.old → Digests kind (fed ++ bytes.now) self.new }
     {
@@ -79,6 +82,7 @@ impl Digester {
     }
 
     /// The seal or hash of all that was fed, however it was cut.
+    #[tactic(auto, unfolding(crate::specs::Digests::IsMaking))]
     pub fn finish(self) -> [u8; 32]
         ensures seal { (key place nonce : List ℕ) (event : ℕ) (fed : List ℕ) →
             Digests (sealing key place nonce event) fed self → result ≡ seal_of key place nonce event fed }

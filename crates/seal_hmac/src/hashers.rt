@@ -67,6 +67,7 @@ impl Mac {
     }
 
     /// The code of all that was fed (RFC 2104), however it was cut.
+    #[tactic(auto, unfolding(crate::specs::Hmac::hmac))]
     pub fn finish(self) -> [u8; 32]
         ensures { (key message : List ℕ) → Feeds key message self → result ≡ hmac key message }
     {

@@ -8,6 +8,8 @@ mod digester;
 mod hashers;
 mod key;
 mod ring;
+#[cfg(test)]
+mod tests;
 
 pub use bytes::same;
 pub use code::mac;
