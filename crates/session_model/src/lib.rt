@@ -1,0 +1,4 @@
+//! What a session means: the value that a phrase makes of a nonce and answers, and which records of a
+//! session are right. Definitions alone, for the crates that evaluate, run and report sessions; they
+//! recurse over phrases and speak of whole lists, and know no stack, store or thread.
+#![tactic(auto)]
