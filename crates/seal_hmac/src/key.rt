@@ -11,7 +11,7 @@ pub const LEAST_KEY_BYTES: usize = 16;
 /// The greatest length of a key, in bytes.
 pub const KEY_BYTES: usize = 128;
 
-/// A key of 16 to 128 bytes, kept inline.
+/// A key of 16 to 128 bytes, kept inline. It has no text form, so that no key is printed.
 #[derive(Clone, Copy)]
 pub struct Key {
     padded: [u8; 128],

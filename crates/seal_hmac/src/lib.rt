@@ -1,5 +1,6 @@
 //! Keys of places and HMAC-SHA-256 (RFC 2104, FIPS 198-1): the code of a message under a key,
-//! however the message was cut, and the seal and hash that stand in evidence.
+//! however the message was cut, and the seal and hash that stand in evidence. Nothing here takes
+//! memory.
 #![tactic(auto)]
 
 mod bytes;

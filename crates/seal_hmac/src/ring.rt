@@ -28,6 +28,7 @@ impl KeyRing {
         KeyRing { pairs }
     }
 
+    /// The pairs, in the order in which they were given.
     pub fn items(&self) -> &[(Place, Key)]
         ensures { result.now ≡ self.now }
     {
