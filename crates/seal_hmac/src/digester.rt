@@ -30,7 +30,8 @@ pub struct Digester {
 /// A freshly keyed code, fed all that stands before the value's bytes in the message under a seal:
 /// the byte 53, the place's name behind its length, the nonce, and the event's number.
 pub fn seal_mac(mut keyed: Mac, place: Place, nonce: &[u8; 16], event: u32) -> Mac
-    ensures { (key : List ℕ) → Feeds key [] keyed → Feeds key (sealed_message place nonce.now event []) result }
+    ensures { (key : List ℕ) →
+        Feeds key [] keyed → Feeds key (sealed_message place nonce.now event []) result }
 {
     let name = place.bytes();
     keyed.update(&[SEAL_TAG, name.len() as u8]);
@@ -53,7 +54,8 @@ impl Digester {
     /// Begins a seal under the key with which that `Mac` was freshly made.
     #[tactic(auto, unfolding(crate::specs::Digests::IsMaking))]
     pub fn seal_with(keyed: Mac, place: Place, nonce: &[u8; 16], event: u32) -> Digester
-        ensures { (key : List ℕ) → Feeds key [] keyed → Digests (sealing key place nonce.now event) [] result }
+        ensures { (key : List ℕ) →
+            Feeds key [] keyed → Digests (sealing key place nonce.now event) [] result }
     {
         Digester {
             making: Making::Seal(seal_mac(keyed, place, nonce, event)),
@@ -73,7 +75,8 @@ impl Digester {
     /// Feeds the next bytes of the value.
     #[tactic(auto, unfolding(crate::specs::Digests::IsMaking))]
     pub fn update(&mut self, bytes: &[u8])
-        ensures { (kind : Kind) (fed : List ℕ) → Digests kind fed self.old → Digests kind (fed ++ bytes.now) self.new }
+        ensures { (kind : Kind) (fed : List ℕ) →
+            Digests kind fed self.old → Digests kind (fed ++ bytes.now) self.new }
     {
         match &mut self.making {
             Making::Seal(mac) => mac.update(bytes),
@@ -85,7 +88,8 @@ impl Digester {
     #[tactic(auto, unfolding(crate::specs::Digests::IsMaking))]
     pub fn finish(self) -> [u8; 32]
         ensures seal { (key place nonce : List ℕ) (event : ℕ) (fed : List ℕ) →
-            Digests (sealing key place nonce event) fed self → result ≡ seal_of key place nonce event fed }
+            Digests (sealing key place nonce event) fed self →
+            result ≡ seal_of key place nonce event fed }
         ensures hash { (fed : List ℕ) → Digests hashing fed self → result ≡ hash_of fed }
     {
         match self.making {

@@ -61,7 +61,8 @@ impl Mac {
 
     /// Feeds the next bytes of the message.
     pub fn update(&mut self, bytes: &[u8])
-        ensures { (key message : List ℕ) → Feeds key message self.old → Feeds key (message ++ bytes.now) self.new }
+        ensures { (key message : List ℕ) →
+            Feeds key message self.old → Feeds key (message ++ bytes.now) self.new }
     {
         self.inner.update(bytes);
     }
