@@ -1,0 +1,4 @@
+mod Histories
+mod Views
+mod Words
+mod Keeps
