@@ -322,3 +322,6 @@ module _ (O I : Type 0) where
             newest = tt;
           },
         )
+
+    pub starts_with : (state about : S) (slots : List (Option S)) → slots ≡ Some state ∷ [] → about ≡ state → IsOpening (history_of state) → Ruled history_of (opening (0 ∷ []) slots (maker (history_of about)))
+    starts_with state about slots is same o = subst (λ (z : List (Option S) × S). Ruled history_of (opening (0 ∷ []) z.0 (maker (history_of z.1)))) (λ i. (sym is i, sym same i)) (starts state o)

@@ -2,3 +2,4 @@ mod Histories
 mod Views
 mod Words
 mod Keeps
+mod Opens

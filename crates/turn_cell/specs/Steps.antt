@@ -11,9 +11,12 @@ abbrev pub word_after : ℕ → ℕ
 word_after taking = if taking == last_number then 2 * taking - 1 else 2 * taking
 
 module _ {O I : Type 0} where
-  -- the seat that makes the passes, before it made any
+  -- the seat that makes the passes, after it made so many
+  abbrev pub maker_after : List (Entry O I) → ℕ → Known O I
+  maker_after history count = record { makes = true; number = count; seen = history; mine = []; holds = false; got = []; takings = 0; last = 0; losses = 0; met = 0 }
+
   abbrev pub maker : List (Entry O I) → Known O I
-  maker history = record { makes = true; number = 0; seen = history; mine = []; holds = false; got = []; takings = 0; last = 0; losses = 0; met = 0 }
+  maker history = maker_after history 0
 
   -- the seat that makes the passes, after it made one more
   abbrev pub after_one_more : Known O I → Known O I
