@@ -11,7 +11,7 @@ use Rattle.turn_cell.specs.declared.chronicle.Entry.{Entry}
 use Rattle.turn_cell.specs.declared.chronicle.Entry.TheVariants.{Opened}
 use Rattle.turn_cell.specs.declared.pass.Known.{Known}
 use Rattle.turn_cell.specs.History.{IsOpening, made_by, Continues, own, Extends}
-use Rattle.turn_cell.specs.Rule.{Turn, free, worn_out, held, last_number, word_of, InRange, is_turn_of, WhileNobodys, WhileHeld, EachPass, IsMaker, Numbered, OneTurn, InHand, Sees, total_takings, Counted, IsNewest, AtHome, Rule, Ruled}
+use Rattle.turn_cell.specs.Rule.{Turn, free, worn_out, held, last_number, IsTaking, word_of, InRange, is_turn_of, WhileNobodys, WhileHeld, EachPass, IsMaker, Numbered, OneTurn, InHand, Sees, total_takings, Counted, IsNewest, AtHome, Rule, Ruled}
 use Rattle.turn_cell.specs.Steps.{word_after, maker, after_one_more, newcomer, after_winning, after_losing, after_giving, Wins, Misses, tried, in_hand, Gives, gave}
 use Rattle.turn_cell.proofs.Histories.{continues_itself, continues_longer, others_stay, own_grow}
 use Rattle.turn_cell.proofs.Views.{at_below, each_set, each_more, first_stays, total_set, total_more}
@@ -68,9 +68,10 @@ module _ (O I : Type 0) where
     Tries slots s k m f = (w : Known O I) × (a : Act (Option S)) × Valid s.homes m.1 a × Ruled history_of (stepped s 0 (bit_or f 1) (suc k) m.1 w a)
         × tried history_of (step slots 0 1 0 none) m f (w, carried_after m.1 a)
 
-    loses : (slots k : ℕ) (m : Sat) (s : St) (history : List (Entry O I)) (t : ℕ) (turn : Turn) → Rule history_of history t turn s → get_elem? s.views (suc k) ≡ some m.0 → word_of t turn ≡ 2 * t - 1 → 0 < t
+    loses : (slots k : ℕ) (m : Sat) (s : St) (history : List (Entry O I)) (t : ℕ) (turn : Turn) → Rule history_of history t turn s → get_elem? s.views (suc k) ≡ some m.0 → word_of t turn ≡ 2 * t - 1 → IsTaking t
         → (m.0.last < t) ⊎ (t ≡ last_number) → Tries slots s k m (get_or s.words 0 0)
-    loses slots k m s history t turn r at odd pos later =
+    loses slots k m s history t turn r at odd range later =
+        let pos : 0 < t = range.0 in
         let w : Known O I = after_losing m.0 t in
         let found : get_or s.words 0 0 ≡ 2 * t - 1 = ap (λ (ws : List ℕ). get_or ws 0 0) r.one_turn.word ∙ odd in
         let mine = r.numbered.each k m.0 at in
@@ -101,7 +102,7 @@ module _ (O I : Type 0) where
           ),
           (
             (λ even. absurd (odd_rest t pos even)),
-            (λ _. let P : ℕ → Type 0 = λ z. Misses history_of m (w, m.1) z in subst P (sym (odd_half t pos)) record { hand = refl; view = refl; later = later }),
+            (λ _. let P : ℕ → Type 0 = λ z. Misses history_of m (w, m.1) z in subst P (sym (odd_half t pos)) record { hand = refl; view = refl; is_taking = range; later = later }),
           ),
         )
 
@@ -151,6 +152,7 @@ module _ (O I : Type 0) where
               view = refl;
               continues = subst (Continues m.0.seen) (sym home.history_is) (r.sees k m.0 at).seen;
               mine = ap (λ (n : ℕ). made_by n (history_of home.state)) mine.1 ∙ ap (made_by k) home.history_is ∙ sym (r.sees k m.0 at).mine;
+              is_taking = (omega arith, omega arith);
               later = let e : m.0.last < t + 1 = omega arith in e;
             }),
             (λ odd. absurd (odd (even_rest t))),
@@ -159,11 +161,10 @@ module _ (O I : Type 0) where
 
     tries_in : (slots k : ℕ) (m : Sat) (s : St) (history : List (Entry O I)) (t : ℕ) (turn : Turn) → Rule history_of history t turn s → get_elem? s.views (suc k) ≡ some m.0 → m.0.holds ≡ false → Tries slots s k m (get_or s.words 0 0)
     tries_in slots k m s history t free r at idle = wins slots k m s history t r at
-    tries_in slots k m s history t worn_out r at idle = let all : t ≡ last_number = r.one_turn.range in loses slots k m s history t worn_out r at refl (omega arith) (inr all)
+    tries_in slots k m s history t worn_out r at idle = let all : t ≡ last_number = r.one_turn.range in loses slots k m s history t worn_out r at refl (omega arith, omega arith) (inr all)
     tries_in slots k m s history t (held n) r at idle =
-        let range : (0 < t) × (t ≤ last_number) = r.one_turn.range in
         let other : k ≢ n = λ e. true_not_false (sym (eq-eqb k n e) ∙ sym (r.one_turn.holder k m.0 at) ∙ idle) in
-        loses slots k m s history t (held n) r at refl range.0 (inl (r.newest.others k m.0 at other))
+        loses slots k m s history t (held n) r at refl r.one_turn.range (inl (r.newest.others k m.0 at other))
 
     -- the step that makes the word odd
     pub tries : (slots id : ℕ) (m : Sat) → m.0.makes ≡ false → m.0.holds ≡ false → Allows (Ruled history_of) slots id m 0 (λ n. bit_or n 1) (tried history_of (step slots 0 1 0 none) m)

@@ -4,7 +4,7 @@ use Rattle.turn_cell.specs.declared.chronicle.Entry.{Entry}
 use Rattle.turn_cell.specs.declared.pass.CellPass.{CellPass}
 use Rattle.turn_cell.specs.declared.cell.TurnCell.{TurnCell}
 use Rattle.turn_cell.specs.History.{made_by, Continues, own}
-use Rattle.turn_cell.specs.Rule.{last_number}
+use Rattle.turn_cell.specs.Rule.{last_number, IsTaking}
 
 module _ {S O I : Type 0} where
   -- the pass's number, from 0
@@ -71,6 +71,7 @@ module _ {S O I : Type 0} where
     pub continues : Continues (seen before) history
     pub mine_in_it : made_by (number before) history ≡ mine before
     pub takings_rose : takings after ≡ takings before + 1
+    pub last_is_taking : IsTaking (last after)
     pub last_rose : last before < last after
     pub number_stays : number after ≡ number before
     pub seen_stays : seen after ≡ seen before
@@ -81,6 +82,7 @@ module _ {S O I : Type 0} where
   -- the turn was another's, or is worn out. The taking that was met is later than the pass's own last one, or it is the last of all
   pub record Loses (before after : CellPass S O I) : Type 0 where
     pub losses_rose : losses after ≡ losses before + 1
+    pub met_is_taking : IsTaking (met after)
     pub met_another : (last after < met after) ⊎ (met after ≡ last_number)
     pub number_stays : number after ≡ number before
     pub seen_stays : seen after ≡ seen before

@@ -18,6 +18,10 @@ pub data Turn : Type 0 where
 abbrev pub last_number : ℕ
 last_number = 9223372036854775808
 
+-- the number of a taking
+abbrev pub IsTaking : ℕ → Type 0
+IsTaking taking = (0 < taking) × (taking ≤ last_number)
+
 -- the word after this many takings
 abbrev pub word_of : ℕ → Turn → ℕ
 word_of takings free = 2 * takings
@@ -28,7 +32,7 @@ word_of takings (held number) = 2 * takings - 1
 abbrev pub InRange : ℕ → Turn → Type 0
 InRange takings free = takings < last_number
 InRange takings worn_out = takings ≡ last_number
-InRange takings (held number) = (0 < takings) × (takings ≤ last_number)
+InRange takings (held number) = IsTaking takings
 
 -- it is the turn of this pass
 abbrev pub is_turn_of : Turn → ℕ → Bool

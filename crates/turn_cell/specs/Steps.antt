@@ -4,7 +4,7 @@ use Rattle.atomic_table.specs.Table.{Me, Step, rest}
 use Rattle.turn_cell.specs.declared.chronicle.Entry.{Entry}
 use Rattle.turn_cell.specs.declared.pass.Known.{Known}
 use Rattle.turn_cell.specs.History.{made_by, Continues, own}
-use Rattle.turn_cell.specs.Rule.{last_number}
+use Rattle.turn_cell.specs.Rule.{last_number, IsTaking}
 
 -- the word at which the taking of this number ends
 abbrev pub word_after : ℕ → ℕ
@@ -49,12 +49,14 @@ module _ {S O I : Type 0} (history_of : S → List (Entry O I)) where
     pub view : after.0 ≡ after_winning before.0 (history_of state) taking
     pub continues : Continues before.0.seen (history_of state)
     pub mine : made_by before.0.number (history_of state) ≡ before.0.mine
+    pub is_taking : IsTaking taking
     pub later : before.0.last < taking
 
   -- the taking of this number has the turn, or had it last
   pub record Misses (before after : Sat) (taking : ℕ) : Type 0 where
     pub hand : after.1 ≡ before.1
     pub view : after.0 ≡ after_losing before.0 taking
+    pub is_taking : IsTaking taking
     pub later : (before.0.last < taking) ⊎ (taking ≡ last_number)
 
   -- the word was made odd. It was even where the turn was won

@@ -7,6 +7,7 @@ mod cell;
 mod chronicle;
 mod pass;
 mod rule;
+mod threads;
 
 
 pub use cell::{TurnCell, Unopened};
