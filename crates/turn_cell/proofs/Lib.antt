@@ -3,3 +3,4 @@ mod Views
 mod Words
 mod Keeps
 mod Opens
+mod Diaries

@@ -4,7 +4,7 @@ use Rattle.std.specs.Prelude.{slice_get, Option, None}
 use Rattle.turn_cell.specs.declared.chronicle.Entry.{Entry}
 use Rattle.turn_cell.specs.declared.pass.CellPass.{CellPass}
 use Rattle.turn_cell.specs.declared.cell.TurnCell.{TurnCell}
-use Rattle.turn_cell.specs.Passes.{MadeBy, IsNew, AreNew}
+use Rattle.turn_cell.specs.Passes.{MadeBy, IsReady, IsNew, AreNew}
 use Rattle.turn_cell.specs.Steps.{newcomer, maker_after}
 
 slice_end : {A : Type 0} (l : List A) (a b : A) (j : ℕ) → slice_get (l ++ a ∷ []) j ≡ Some b → (slice_get l j ≡ Some b) ⊎ ((j ≡ length l) × (a ≡ b))
@@ -39,3 +39,19 @@ module _ (S O I : Type 0) where
     losses_is = ap (λ v. v.losses) is;
     met_is = ap (λ v. v.met) is;
   }
+
+-- three passes, as they are taken off the end of their list
+pub three_passes : {A : Type 0} (passes two one none : List A) (first second third : A) → length passes ≡ 3 → passes ≡ two ++ third ∷ [] → two ≡ one ++ second ∷ [] → one ≡ none ++ first ∷ []
+    → (slice_get passes 0 ≡ Some first) × (slice_get passes 1 ≡ Some second) × (slice_get passes 2 ≡ Some third)
+three_passes passes two one [] first second third three a b c =
+    let all : passes ≡ first ∷ second ∷ third ∷ [] = a ∙ ap (λ l. l ++ third ∷ []) b ∙ ap (λ l. (l ++ second ∷ []) ++ third ∷ []) c in
+    (ap (λ l. slice_get l 0) all, ap (λ l. slice_get l 1) all, ap (λ l. slice_get l 2) all)
+three_passes passes two one (x ∷ xs) first second third three a b c =
+    let k : length passes ≡ length two + 1 = ap length a ∙ length-append two (third ∷ []) in
+    let m : length two ≡ length one + 1 = ap length b ∙ length-append one (second ∷ []) in
+    let n : length one ≡ suc (length xs) + 1 = ap length c ∙ length-append (x ∷ xs) (first ∷ []) in
+    absurd (omega arith)
+
+module _ (S O I : Type 0) where
+  pub ready : (opening : List (Entry O I)) (seats : ℕ) (cell : TurnCell S O I) (passes : List (CellPass S O I)) (n : ℕ) (pass : CellPass S O I) → AreNew opening seats cell passes → slice_get passes n ≡ Some pass → IsReady cell pass n
+  ready opening seats cell passes n pass r at = let new = r.new n pass at in record { made = r.made n pass at; idle = new.holds_not; number_is = new.number_is }

@@ -47,6 +47,12 @@ module _ {S O I : Type 0} where
   abbrev pub MadeBy : TurnCell S O I → CellPass S O I → Type 0
   MadeBy cell pass = pass.ticket.seat.table_id ≡ cell.shelf.table.shared.table_id
 
+  -- the cell made the pass, which has this number and doesn't hold the turn
+  pub record IsReady (cell : TurnCell S O I) (pass : CellPass S O I) (count : ℕ) : Type 0 where
+    pub made : MadeBy cell pass
+    pub idle : holds pass ≡ false
+    pub number_is : number pass ≡ count
+
   -- a pass that was just made. It has seen the opening alone
   pub record IsNew (opening : List (Entry O I)) (count : ℕ) (pass : CellPass S O I) : Type 0 where
     pub number_is : number pass ≡ count

@@ -37,11 +37,7 @@ fn word_after_taking(taking: u64) -> u64
     requires { taking ≤ 2 ^ 63 }
     ensures { result ≡ word_after taking }
 {
-    if taking == LAST {
-        u64::MAX
-    } else {
-        2 * taking
-    }
+    if taking == LAST { u64::MAX } else { 2 * taking }
 }
 
 impl<S: Chronicle> TurnCell<S> {
@@ -75,10 +71,7 @@ impl<S: Chronicle> TurnCell<S> {
     fn lay(
         alloc: Global,
         state: S,
-    ) -> Result<
-        (TurnCell<S>, Seat<Option<S>, Known<S::Opening, S::Item>>),
-        Unopened<S>,
-    >
+    ) -> Result<(TurnCell<S>, Seat<Option<S>, Known<S::Opening, S::Item>>), Unopened<S>>
         requires { IsOpening (S.history state) }
         ensures ok { IfOk result (λ laid. (laid.1.table_id ≡ laid.0.shelf.table.shared.table_id) × (laid.1.id ≡ 0) × (laid.1.me.0 ≡ maker (S.history state))) }
         ensures err { IfErr result (λ unopened. unopened.state ≡ state) }

@@ -13,6 +13,7 @@ pub trait Chronicle: Drop {
     ghost use Rattle.turn_cell.specs.History.{IsHistory};
 
     type Opening;
+
     type Item;
 
     ghost history: { Self → List (Entry Self.Opening Self.Item) };

@@ -5,10 +5,12 @@
 
 mod cell;
 mod chronicle;
+mod diary;
 mod pass;
 mod rule;
+#[cfg(test)]
+mod tests;
 mod threads;
-
 
 pub use cell::{TurnCell, Unopened};
 pub use chronicle::{Chronicle, Entry};
