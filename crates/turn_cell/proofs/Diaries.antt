@@ -14,11 +14,12 @@ module _ (O : Type 0) where
   entries_more [] by = refl
   entries_more (n ∷ ns) by = ap (λ (l : List (Entry O (Unit {0}))). Made n tt ∷ l) (entries_more ns by)
 
+  pub one_more : (o : O) (numbers after : List ℕ) (by number : ℕ) (got : List (Entry O (Unit {0}))) → after ≡ numbers ++ by ∷ [] → number ≡ by → got ≡ Opened o ∷ entries (one_each numbers)
+      → Opened o ∷ entries (one_each after) ≡ got ++ own number (tt ∷ [])
+  one_more o numbers after by number got is same was = ap (λ (l : List ℕ). Opened o ∷ entries (one_each l)) is ∙ ap (λ (l : List (Entry O (Unit {0}))). Opened o ∷ l) (entries_more numbers by)
+      ∙ (λ i. sym was i ++ own (sym same i) (tt ∷ []))
+
   pub grows_by : (o : O) (numbers after : List ℕ) (by number : ℕ) (got : List (Entry O (Unit {0}))) (pushed : Bool) → after ≡ (if pushed then numbers ++ by ∷ [] else numbers) → number ≡ by → got ≡ Opened o ∷ entries (one_each numbers)
       → Extends number got (Opened o ∷ entries (one_each after))
-  grows_by o numbers after by number got true is same was = record {
-    items = tt ∷ [];
-    is = ap (λ (l : List ℕ). Opened o ∷ entries (one_each l)) is ∙ ap (λ (l : List (Entry O (Unit {0}))). Opened o ∷ l) (entries_more numbers by)
-        ∙ (λ i. sym was i ++ own (sym same i) (tt ∷ []));
-  }
+  grows_by o numbers after by number got true is same was = record { items = tt ∷ []; is = one_more o numbers after by number got is same was }
   grows_by o numbers after by number got false is same was = record { items = []; is = ap (λ (l : List ℕ). Opened o ∷ entries (one_each l)) is ∙ sym was ∙ sym (append-nil got) }

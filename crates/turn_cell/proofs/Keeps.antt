@@ -1,18 +1,17 @@
 -- Each kind of step keeps the rule.
-use Rattle.std.proofs.Common.{◌≡◌, ◌≢◌, ℕ, suc, zero, ◌+◌, ◌-◌, ◌*◌, ◌/◌, ◌%◌, ◌<◌, ◌≤◌, ◌⊎◌, inl, inr, Bool, true, false, eqb, eq-eqb, ne_eqb, List, [], ◌∷◌, ◌++◌, length, get_or, set, length-set, length-append, refl, sym, ap, ◌∙◌, subst, arith}
+use Rattle.std.proofs.Common.{◌≡◌, ◌≢◌, ℕ, suc, zero, ◌+◌, ◌-◌, ◌*◌, ◌<◌, ◌≤◌, ◌⊎◌, inl, inr, true, false, eq-eqb, ne_eqb, List, [], ◌∷◌, ◌++◌, length, get_or, set, length-set, length-append, refl, sym, ap, ◌∙◌, subst, arith}
 use mathlib.Core.Option.{none, some, some-injective, some-ne-none}
 use mathlib.Core.Option as maybe
 use native.Mathlib.Decide.{ℕ_discrete}
 use lib.ListN.{get_elem?}
-use Rattle.std.specs.Prelude.{Option, Some, None}
+use Rattle.std.specs.Prelude.{Option, Some}
 use Rattle.std.specs.Int.Bits.{bit_or}
-use Rattle.atomic_table.specs.Table.{State, Me, step, rest, keeps, takes, gives, stepped, Act, Valid, carried_after, Allows, Splits, opening}
+use Rattle.atomic_table.specs.Table.{State, Me, step, keeps, takes, gives, stepped, Act, Valid, carried_after, Allows, Splits, opening}
 use Rattle.turn_cell.specs.declared.chronicle.Entry.{Entry}
-use Rattle.turn_cell.specs.declared.chronicle.Entry.TheVariants.{Opened}
 use Rattle.turn_cell.specs.declared.pass.Known.{Known}
 use Rattle.turn_cell.specs.History.{IsOpening, made_by, Continues, own, Extends}
-use Rattle.turn_cell.specs.Rule.{Turn, free, worn_out, held, last_number, IsTaking, word_of, InRange, is_turn_of, WhileNobodys, WhileHeld, EachPass, IsMaker, Numbered, OneTurn, InHand, Sees, total_takings, Counted, IsNewest, AtHome, Rule, Ruled}
-use Rattle.turn_cell.specs.Steps.{word_after, maker, after_one_more, newcomer, after_winning, after_losing, after_giving, Wins, Misses, tried, in_hand, Gives, gave}
+use Rattle.turn_cell.specs.Rule.{Turn, free, worn_out, held, last_number, IsTaking, word_of, InRange, is_turn_of, WhileHeld, EachPass, IsMaker, Numbered, InHand, Sees, total_takings, Counted, IsNewest, AtHome, Rule, Ruled}
+use Rattle.turn_cell.specs.Steps.{word_after, maker, after_one_more, newcomer, after_winning, after_losing, after_giving, Wins, Misses, tried, gave}
 use Rattle.turn_cell.proofs.Histories.{continues_itself, continues_longer, others_stay, own_grow}
 use Rattle.turn_cell.proofs.Views.{at_below, each_set, each_more, first_stays, total_set, total_more}
 use Rattle.turn_cell.proofs.Words.{odd_from_even, odd_from_odd, even_rest, odd_rest, even_half, odd_half, IsOff, off_not, off_nobodys, off_held, held_map, held_both}

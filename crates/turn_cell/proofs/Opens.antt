@@ -1,6 +1,6 @@
 -- The passes as a cell is opened.
 use Rattle.std.proofs.Common.{◌≡◌, ℕ, zero, suc, ◌+◌, ◌⊎◌, ⊎_elim, inl, inr, List, [], ◌∷◌, ◌++◌, length, length-append, Some, refl, sym, ap, subst, ◌∙◌, arith}
-use Rattle.std.specs.Prelude.{slice_get, Option, None}
+use Rattle.std.specs.Prelude.{slice_get}
 use Rattle.turn_cell.specs.declared.chronicle.Entry.{Entry}
 use Rattle.turn_cell.specs.declared.pass.CellPass.{CellPass}
 use Rattle.turn_cell.specs.declared.cell.TurnCell.{TurnCell}

@@ -1,7 +1,7 @@
 -- The word: what making it odd does, and what it says of the turn.
-use Rattle.std.proofs.Common.{◌≡◌, ◌≢◌, ℕ, suc, zero, ◌+◌, ◌-◌, ◌*◌, ◌/◌, ◌%◌, ◌^◌, ◌<◌, ◌≤◌, Bool, true, false, eqb, eq-eqb, ne_eqb, refl, sym, ap, ◌∙◌, subst, arith}
+use Rattle.std.proofs.Common.{◌≡◌, ◌≢◌, ℕ, ◌+◌, ◌-◌, ◌*◌, ◌/◌, ◌%◌, ◌^◌, ◌<◌, false, refl, ap, ◌∙◌, arith}
 use Rattle.std.specs.Int.Bits.{bit_or, or_block, or_zero_r}
-use Rattle.turn_cell.specs.Rule.{Turn, free, worn_out, held, is_turn_of, last_number, word_of, InRange, WhileNobodys, WhileHeld}
+use Rattle.turn_cell.specs.Rule.{Turn, free, worn_out, held, is_turn_of, WhileNobodys, WhileHeld}
 
 pub odd_from_even : (t : ℕ) → bit_or (2 * t) 1 ≡ 2 * (t + 1) - 1
 odd_from_even t = ap (λ (n : ℕ). bit_or n 1) (let e : 2 * t ≡ t * 2 ^ 1 + 0 = omega arith in e) ∙ or_block 1 t 0 0 1 (omega arith) (omega arith)

@@ -1,4 +1,5 @@
--- The rule of the table, in seven parts. A table has one word, one slot, and what each seat knows.
+-- The rule of the table, in seven parts. The table has one word, one slot, and what each seat knows (its view).
+-- It says how these stand to the cell's history, to the number of takings so far, and to whose turn it is.
 use Rattle.std.specs.Prelude.{◌≡◌, ◌≢◌, ℕ, suc, ◌+◌, ◌-◌, ◌*◌, ◌<◌, ◌≤◌, ◌==◌, Bool, true, false, List, [], ◌∷◌, length, Option, Some}
 use mathlib.Core.Option.{none, some}
 use mathlib.Core.Option as maybe
@@ -64,51 +65,52 @@ module _ {O I : Type 0} where
     pub seen : Continues v.seen history
     pub takings : v.takings ≡ 0
 
-  -- the passes made so far have the numbers from 0 below their count, each once. A number not yet made has no entry
+  -- 1. The passes made so far have the numbers from 0 below their count, each once. A number not yet made has no entry
   pub record Numbered (history : List (Entry O I)) (views : List (Known O I)) : Type 0 where
     pub maker : (v : Known O I) → get_elem? views 0 ≡ some v → IsMaker history (length views) v
     pub each : EachPass views (λ number v. (v.makes ≡ false) × (v.number ≡ number))
     pub later : (number : ℕ) → length views ≤ suc number → made_by number history ≡ []
 
-  -- at most one pass holds the turn, and the word says whether one does
+  -- 2. At most one pass holds the turn, and the word says whether one does: it is even where the turn is free
   pub record OneTurn (takings : ℕ) (turn : Turn) (words : List ℕ) (views : List (Known O I)) : Type 0 where
     pub word : words ≡ word_of takings turn ∷ []
     pub range : InRange takings turn
     pub holder : EachPass views (λ number v. v.holds ≡ is_turn_of turn number)
     pub made : WhileHeld turn (λ number. suc number < length views)
 
-  -- the slot is with the pass of this number, and the history is the one that it got
+  -- 4. The slot is out, with the pass of this number, and the history is the one that this pass got
   pub record InHand {S : Type 0} (history : List (Entry O I)) (homes : List (maybe.Option (Option S))) (views : List (Known O I)) (holder : ℕ) : Type 0 where
     pub out : homes ≡ none ∷ []
     pub got : EachPass views (λ number v. number ≡ holder → v.got ≡ history)
 
-  -- the history begins with what a pass has seen, and the pass's own entries are all that it has of this number
+  -- 5. The history begins with what a pass has seen, and of this number it has just the pass's own entries
   pub record Sees (history : List (Entry O I)) (number : ℕ) (v : Known O I) : Type 0 where
     pub seen : Continues v.seen history
     pub mine : v.mine ≡ made_by number history
 
+  -- the takings of all passes, added up
   abbrev pub total_takings : List (Known O I) → ℕ
   total_takings [] = 0
   total_takings (v ∷ vs) = v.takings + total_takings vs
 
-  -- all passes' takings are the takings, and no pass knows of a later one
+  -- 6. The passes' takings add up to the number of takings, and no pass knows of a later one
   pub record Counted (takings : ℕ) (views : List (Known O I)) : Type 0 where
     pub total : total_takings views ≡ takings
     pub known : EachPass views (λ number v. (v.last ≤ takings) × (v.met ≤ takings))
 
-  -- the last taking is the holder's, and every other pass's last one is earlier
+  -- 7. The newest taking is the holder's, and every other pass's last one is earlier
   pub record IsNewest (takings : ℕ) (views : List (Known O I)) (holder : ℕ) : Type 0 where
     pub own : EachPass views (λ number v. number ≡ holder → v.last ≡ takings)
     pub others : EachPass views (λ number v. number ≢ holder → v.last < takings)
 
 module _ {S O I : Type 0} (history_of : S → List (Entry O I)) where
-  -- the slot is at home, and the history is that of the state in it
+  -- 3. The slot is at home, and the history is that of the state in it
   pub record AtHome (history : List (Entry O I)) (homes : List (maybe.Option (Option S))) : Type 0 where
     pub state : S
     pub is_home : homes ≡ some (Some state) ∷ []
     pub history_is : history_of state ≡ history
 
-  -- the seven parts
+  -- the seven parts, in their order
   pub record Rule (history : List (Entry O I)) (takings : ℕ) (turn : Turn) (s : State (Option S) (Known O I)) : Type 0 where
     pub numbered : Numbered history s.views
     pub one_turn : OneTurn takings turn s.words s.views

@@ -1,4 +1,5 @@
--- What each kind of step does to what a pass knows, and what it tells its caller.
+-- What each kind of step does to what a pass knows, and what it tells its caller. The kinds that change the word or a view
+-- are three: a pass more, the word made odd, the turn given back. Between them the holder reads and writes its slot.
 use Rattle.std.specs.Prelude.{◌≡◌, ◌≢◌, ℕ, ◌+◌, ◌-◌, ◌*◌, ◌/◌, ◌%◌, ◌<◌, ◌==◌, ◌⊎◌, true, false, List, [], ◌∷◌, ◌++◌, if◌then◌else◌, Option, Some, None}
 use Rattle.atomic_table.specs.Table.{Me, Step, rest}
 use Rattle.turn_cell.specs.declared.chronicle.Entry.{Entry}
@@ -15,6 +16,7 @@ module _ {O I : Type 0} where
   abbrev pub maker_after : List (Entry O I) → ℕ → Known O I
   maker_after history count = record { makes = true; number = count; seen = history; mine = []; holds = false; got = []; takings = 0; last = 0; losses = 0; met = 0 }
 
+  -- and before it made any
   abbrev pub maker : List (Entry O I) → Known O I
   maker history = maker_after history 0
 
@@ -39,6 +41,7 @@ module _ {O I : Type 0} where
   after_giving v history = record v { seen = history; mine = made_by v.number history; holds = false }
 
 module _ {S O I : Type 0} (history_of : S → List (Entry O I)) where
+  -- a seat: what it knows, and the slots that it has in hand
   abbrev pub Sat : Type 0
   Sat = Me (Option S) (Known O I)
 
@@ -78,5 +81,6 @@ module _ {S O I : Type 0} (history_of : S → List (Entry O I)) where
     pub view : after.0 ≡ after_giving before.0 (in_hand before.1)
     pub grown : (items : List I) → in_hand before.1 ≡ before.0.got ++ own before.0.number items → made_by before.0.number (in_hand before.1) ≡ before.0.mine ++ own before.0.number items
 
+  -- the word was stored at which the holder's taking ends
   abbrev pub gave : Step (Option S) → Sat → ℕ → Sat → Type 0
   gave step before stored after = Gives before after

@@ -1,7 +1,8 @@
 // A small chronicle, which borrows its opening and keeps a list of pass numbers. By it the tests, and the edits that the
 // check must refuse, show how a state is extended under the turn.
-ghost use Rattle.std.specs.Prelude.{◌≡◌, []};
-ghost use Rattle.turn_cell.specs.Passes.{IsReady};
+ghost use Rattle.std.specs.Prelude.{◌≡◌, ◌+◌, [], ◌∷◌, ◌++◌, IfOk, MatchBool};
+ghost use Rattle.turn_cell.specs.declared.chronicle.Entry.TheVariants.{Made};
+ghost use Rattle.turn_cell.specs.Passes.{mine, losses, IsReady};
 
 use crate::cell::TurnCell;
 use crate::chronicle::Chronicle;
@@ -43,7 +44,8 @@ impl<'a, T> Chronicle for Diary<'a, T> {
 impl<'a, T> Diary<'a, T> {
     /// A diary with its opening alone.
     pub fn new(alloc: Global, text: &'a T) -> Diary<'a, T>
-        ensures { result.numbers.items ≡ [] }
+        ensures text { result.text.now ≡ text.now }
+        ensures numbers { result.numbers.items ≡ [] }
     {
         Diary {
             text,
@@ -59,7 +61,8 @@ pub fn append<'a, T>(
     by: u32,
 ) -> Result<bool, AllocError>
     requires { IsReady cell.now pass.old by }
-    ensures { IsReady cell.now pass.new by }
+    ensures ready { IsReady cell.now pass.new by }
+    ensures added { IfOk result (λ added. MatchBool added (mine pass.new ≡ mine pass.old ++ Made by tt ∷ []) (losses pass.new ≡ losses pass.old + 1)) }
 {
     let Some(mut diary) = cell.take(pass) else {
         return Ok(false);

@@ -6,7 +6,7 @@ use Rattle.turn_cell.proofs.Diaries.{one_each}
 use Rattle.turn_cell.proofs.tests.opened.Goals as goal
 
 pub open-requires-clause-opening : goal.open-requires-clause-opening
-open-requires-clause-opening g c = record { opening = record { text = c.new-diary.result.text }; is = ap (λ l. Opened record { text = c.new-diary.result.text } ∷ entries (one_each l)) c.new-diary.ensures }
+open-requires-clause-opening g c = record { opening = record { text = c.new-diary.result.text }; is = ap (λ l. Opened record { text = c.new-diary.result.text } ∷ entries (one_each l)) c.new-diary.ensures.numbers }
 
 pub returns : goal.returns
 returns g c =
