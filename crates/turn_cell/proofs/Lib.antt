@@ -1,0 +1,6 @@
+mod Histories
+mod Views
+mod Words
+mod Keeps
+mod Opens
+mod Diaries
