@@ -1,0 +1,73 @@
+ghost use Rattle.std.specs.Prelude.{◌≡◌};
+ghost use Rattle.copland_cli.specs.Status.{code_of};
+
+/// How a run ended. Each has an exit status of its own number; several refusals share one.
+#[derive(Clone, Copy, Debug, PartialEq, Eq)]
+pub enum Status {
+    /// The report was written whole.
+    Good,
+    /// The report was written whole, and a session in it failed.
+    SomeFailed,
+    /// The report was written whole, and its verdicts aren't all good.
+    Rejected,
+    /// The words are no command.
+    BadWords,
+    /// The source met a fault.
+    ReadFault,
+    /// The input is longer than 4,194,304 bytes.
+    TooLong,
+    /// The input is no JSON text.
+    NotJson,
+    /// The job is not of its form.
+    BadJob,
+    RepeatedPlace,
+    RepeatedArtefact,
+    RepeatedReference,
+    /// A session's root is no place of the job.
+    BadRoot,
+    RepeatedNonce,
+    /// A phrase is refused.
+    BadPhrase,
+    /// An event breaks a rule of its place.
+    Misplaced,
+    /// The evidence at an event weighs too much.
+    Oversize,
+    /// A measurement has no reference.
+    NoReference,
+    /// The bundle is none, or not of the phrase's shape.
+    BadBundle,
+    /// The sink met a fault while the report was written.
+    WriteFault,
+    NoMemory,
+    /// The command, or the job, is not built yet.
+    Unbuilt,
+}
+
+impl Status {
+    /// The exit status.
+    pub fn code(&self) -> u8
+        ensures { result ≡ code_of self.now }
+    {
+        match self {
+            Status::Good => 0,
+            Status::SomeFailed | Status::Rejected => 1,
+            Status::BadWords => 2,
+            Status::ReadFault => 3,
+            Status::TooLong => 4,
+            Status::NotJson => 5,
+            Status::BadJob
+            | Status::RepeatedPlace
+            | Status::RepeatedArtefact
+            | Status::RepeatedReference
+            | Status::BadRoot
+            | Status::RepeatedNonce => 6,
+            Status::BadPhrase => 7,
+            Status::Misplaced | Status::Oversize => 8,
+            Status::NoReference => 9,
+            Status::BadBundle => 10,
+            Status::WriteFault => 11,
+            Status::NoMemory => 12,
+            Status::Unbuilt => 13,
+        }
+    }
+}

@@ -1,0 +1,126 @@
+ghost use Rattle.std.specs.Prelude.{◌≡◌, ◌^◌, ◌<◌, ◌≤◌, ℕ, MatchOption, codes, decimal, [], ◌∷◌};
+ghost use Rattle.copland_cli.specs.Words.{IsNoNumber, IsNoCommand, Spells, texts};
+
+use itoa::Buffer;
+
+/// A command of the program.
+#[derive(Clone, Copy, Debug, PartialEq, Eq)]
+pub enum Command {
+    Check,
+    Shape,
+    Events,
+    Code,
+    Eval,
+    /// A walk by the schedule of this number.
+    Walk(u32),
+    /// A run by this many workers, from 1 to 16.
+    Attest(u32),
+    Appraise,
+    /// The made job of this number.
+    Load(u32),
+}
+
+/// The greatest number of workers.
+const MOST_WORKERS: u32 = 16;
+
+/// The command that these words spell, if any.
+pub fn command_of(words: &[String]) -> Option<Command>
+    ensures { MatchOption result (IsNoCommand (texts words.now)) (λ command. Spells (texts words.now) command) }
+{
+    match words {
+        [word] => single(word.as_str()),
+        [word, number] => numbered(word.as_str(), number.as_str()),
+        [word, flag, number] => flagged(word.as_str(), flag.as_str(), number.as_str()),
+        _ => None,
+    }
+}
+
+fn single(word: &str) -> Option<Command>
+    ensures { MatchOption result (IsNoCommand (word.now ∷ [])) (λ command. Spells (word.now ∷ []) command) }
+{
+    if word == "check" {
+        return Some(Command::Check);
+    }
+    if word == "shape" {
+        return Some(Command::Shape);
+    }
+    if word == "events" {
+        return Some(Command::Events);
+    }
+    if word == "code" {
+        return Some(Command::Code);
+    }
+    if word == "eval" {
+        return Some(Command::Eval);
+    }
+    if word == "appraise" {
+        return Some(Command::Appraise);
+    }
+    None
+}
+
+fn numbered(word: &str, number: &str) -> Option<Command>
+    ensures { MatchOption result
+        (IsNoCommand (word.now ∷ number.now ∷ []))
+        (λ command. Spells (word.now ∷ number.now ∷ []) command) }
+{
+    let Some(number) = number_of(number) else {
+        return None;
+    };
+    if word == "walk" {
+        return Some(Command::Walk(number));
+    }
+    if word == "load" {
+        return Some(Command::Load(number));
+    }
+    None
+}
+
+fn flagged(word: &str, flag: &str, number: &str) -> Option<Command>
+    ensures { MatchOption result
+        (IsNoCommand (word.now ∷ flag.now ∷ number.now ∷ []))
+        (λ command. Spells (word.now ∷ flag.now ∷ number.now ∷ []) command) }
+{
+    let Some(workers) = workers_of(number) else {
+        return None;
+    };
+    if word != "attest" {
+        return None;
+    }
+    if flag != "--workers" {
+        return None;
+    }
+    Some(Command::Attest(workers))
+}
+
+/// The number of workers that a text spells, from 1 to 16.
+fn workers_of(text: &str) -> Option<u32>
+    ensures { MatchOption result
+        ((workers : ℕ) → 1 ≤ workers → workers ≤ 16 → text.now ≡ decimal workers → ⊥)
+        (λ workers. (text.now ≡ decimal workers) × (1 ≤ workers) × (workers ≤ 16)) }
+{
+    let Some(workers) = number_of(text) else {
+        return None;
+    };
+    if workers == 0 {
+        return None;
+    }
+    if workers > MOST_WORKERS {
+        return None;
+    }
+    Some(workers)
+}
+
+/// The number of 32 bits that a text spells in decimal, without leading zeros.
+fn number_of(text: &str) -> Option<u32>
+    ensures { MatchOption result (IsNoNumber text.now) (λ number. (text.now ≡ decimal number) × (number < 2 ^ 32)) }
+{
+    let Ok(number) = text.parse::<u32>() else {
+        return None;
+    };
+    if Buffer::new().format(number) == text {
+        Some(number)
+    } else {
+        None
+    }
+}
