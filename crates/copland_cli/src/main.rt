@@ -9,6 +9,8 @@ mod record;
 mod refusal;
 mod report;
 mod status;
+#[cfg(test)]
+mod tests;
 mod top;
 mod walk;
 mod words;
