@@ -7,6 +7,8 @@
 
 mod answer;
 mod answers;
+#[cfg(test)]
+mod tests;
 mod value;
 
 pub use answer::Answer;
