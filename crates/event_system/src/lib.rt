@@ -1,0 +1,4 @@
+//! The events of a phrase of Copland and their order, after Ramsdell et al., Orchestrating Layered
+//! Attestations, POST 2019: the event list, the event system, which events are before which, and
+//! what is wrong with a list of events that should be a trace. The numbers are this project's own.
+#![tactic(auto)]
