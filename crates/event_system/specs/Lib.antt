@@ -1,2 +1,6 @@
 pub mod Order
 pub mod Trace
+pub mod Events
+pub mod System
+pub mod Needs
+pub mod Fault

@@ -2,3 +2,13 @@
 //! Attestations, POST 2019: the event list, the event system, which events are before which, and
 //! what is wrong with a list of events that should be a trace. The numbers are this project's own.
 #![tactic(auto)]
+
+mod direct;
+mod event;
+mod fault;
+mod system;
+
+pub use direct::Needs;
+pub use event::{Event, EventKind};
+pub use fault::TraceFault;
+pub use system::EventSystem;
