@@ -1,0 +1,229 @@
+-- The direct predecessors that are found by going down a phrase are those of the order.
+use Rattle.std.proofs.Common.{◌≡◌, ℕ, ◌+◌, ◌-◌, ◌≤◌, ◌<◌, ◌⊎◌, inl, inr, refl, sym, ap, ◌∙◌, subst, Bool, true, false, cond, eqb, ltb, List, [], Option, Some, None, arith}
+use Rattle.std.proofs.lemmas.Bool.{cases_lt, cases_eq, cond_both, cond-true, cond-false, eqb-true, eqb-false, ltb-true, ltb-false, eq-eqb, ne_eqb, lt-ltb, le-ltb}
+use Rattle.phrase_tree.specs.declared.phrase.Split.{Split}
+use Rattle.phrase_tree.specs.Term.{Term, cpy, sig, hsh, usm, kim, at, chain, seq, par}
+use Rattle.phrase_tree.specs.Numbering.{event_count}
+use Rattle.event_system.specs.declared.direct.Needs.{Needs}
+use Rattle.event_system.specs.Order.{IsEvent, Opens, Closes, Crosses, IsBefore, IsDirectlyBefore}
+use Rattle.event_system.specs.Needs.{only, Names, needs_behind, needs_of}
+use Rattle.event_system.proofs.OrderLaws.{IsRising, some_event, before_rises, first_before, before_last, framed_inside, joined_left, joined_right}
+
+-- a fact of a choice by an order of numbers, and of one between first, inside and last
+by_order : (y m : ℕ) (a b : Needs) (P : Needs → Type 0) → (y < m → P a) → (m ≤ y → P b) → P (cond (ltb y m) a b)
+by_order y m a b P lt ge = cond_both (ltb y m) a b P (λ e. lt (ltb-true y m e)) (λ e. ge (ltb-false y m e))
+
+by_place : (y i m : ℕ) (a b c : Needs) (P : Needs → Type 0) → (y ≡ i → P a) → ((y ≡ i → ⊥) → y < m → P b) → (m ≤ y → P c) → P (cond (eqb y i) a (cond (ltb y m) b c))
+by_place y i m a b c P first inside last =
+    cond_both (eqb y i) a (cond (ltb y m) b c) P (λ e. first (eqb-true y i e)) (λ e. by_order y m b c P (inside (eqb-false y i e)) last)
+
+-- the first event of a phrase has what the phrase is entered from
+pub needs_at_start : (entry : Option ℕ) (phrase : Term) (i : ℕ) → needs_behind entry phrase i i ≡ only entry
+needs_at_start entry cpy i = refl
+needs_at_start entry sig i = refl
+needs_at_start entry hsh i = refl
+needs_at_start entry (usm asp) i = refl
+needs_at_start entry (kim target asp) i = refl
+needs_at_start entry (at asked body) i = cond-true (eqb i i) _ _ (eq-eqb i i refl)
+needs_at_start entry (chain left right) i =
+    cond-true (ltb i (i + event_count left)) _ _ (lt-ltb i (i + event_count left) (omega (arith, some_event left))) ∙ needs_at_start entry left i
+needs_at_start entry (seq split left right) i = cond-true (eqb i i) _ _ (eq-eqb i i refl)
+needs_at_start entry (par split left right) i = cond-true (eqb i i) _ _ (eq-eqb i i refl)
+
+only_names : (entry : Option ℕ) (x : ℕ) → Names (only entry) x → entry ≡ Some x
+only_names entry x (inl e) = e
+only_names entry x (inr e) = cc
+
+-- neighbours in number that are ordered have nothing between
+adjacent : (phrase : Term) (i x y : ℕ) → y ≡ x + 1 → IsBefore phrase i x y → IsDirectlyBefore phrase i x y
+adjacent phrase i x y e h =
+    record {
+      before = h;
+      nothing_between = λ z b c.
+        let low = before_rises phrase i x z b in
+        let high = before_rises phrase i z y c in
+        omega arith;
+    }
+
+-- what is named for y: a direct predecessor, or for the first event what the phrase is entered from
+abbrev pub Found : Option ℕ → Term → ℕ → ℕ → ℕ → Type 0
+Found entry phrase i x y = IsDirectlyBefore phrase i x y ⊎ ((y ≡ i) × (entry ≡ Some x))
+
+request_inside : (entry : Option ℕ) (asked : List ℕ) (body : Term) (i x y : ℕ) → Found (Some i) body (i + 1) x y → i < y → y < i + 1 + event_count body → Found entry (at asked body) i x y
+request_inside entry asked body i x y (inl d) from below =
+    let r = before_rises body (i + 1) x y d.before in
+    inl (record {
+      before = inr (inr d.before);
+      nothing_between = λ z b c.
+        let low = before_rises (at asked body) i x z b in
+        let high = before_rises (at asked body) i z y c in
+        d.nothing_between z
+          (framed_inside i (i + (2 + event_count body)) x z (IsBefore body (i + 1) x z) (omega arith) (omega arith) b)
+          (framed_inside i (i + (2 + event_count body)) z y (IsBefore body (i + 1) z y) (omega arith) (omega arith) c);
+    })
+request_inside entry asked body i x y (inr p) from below =
+    let start : i ≡ x = cc in
+    let e = p.0 in
+    inl (adjacent (at asked body) i x y (omega arith) (inl (record { first = omega arith; later = omega arith; below = omega arith })))
+
+request_last : (entry : Option ℕ) (asked : List ℕ) (body : Term) (i x y : ℕ) → IsEvent (at asked body) i y → i + 1 + event_count body ≤ y → Names (only (Some (i + event_count body))) x → Found entry (at asked body) i x y
+request_last entry asked body i x y event last names =
+    let named = only_names (Some (i + event_count body)) x names in
+    let e : i + event_count body ≡ x = cc in
+    inl (adjacent (at asked body) i x y (omega arith) (inr (inl (record { from = omega arith; earlier = omega arith; last = omega arith }))))
+
+request_found : (entry : Option ℕ) (asked : List ℕ) (body : Term) (i x y : ℕ) → (IsEvent body (i + 1) y → Names (needs_behind (Some i) body (i + 1) y) x → Found (Some i) body (i + 1) x y) → IsEvent (at asked body) i y → Names (needs_behind entry (at asked body) i y) x → Found entry (at asked body) i x y
+request_found entry asked body i x y found event =
+    by_place y i (i + 1 + event_count body) (only entry) (needs_behind (Some i) body (i + 1) y) (only (Some (i + event_count body))) (λ n. Names n x → Found entry (at asked body) i x y)
+      (λ e h. inr (e, only_names entry x h))
+      (λ ne lt h. request_inside entry asked body i x y (found (record { from = omega arith; below = omega arith }) h) (omega arith) lt)
+      (λ ge h. request_last entry asked body i x y event ge h)
+
+chain_left : (entry : Option ℕ) (left right : Term) (i x y : ℕ) → y < (i + event_count left) → Found entry left i x y → Found entry (chain left right) i x y
+chain_left entry left right i x y lt (inl d) =
+    inl (record {
+      before = inr (inl d.before);
+      nothing_between = λ z b c.
+        let high = before_rises (chain left right) i z y c in
+        d.nothing_between z
+          (joined_left i (i + event_count left) (i + event_count left + event_count right) x z (IsBefore left i x z) (IsBefore right (i + event_count left) x z) (omega arith) (before_rises right (i + event_count left) x z) b)
+          (joined_left i (i + event_count left) (i + event_count left + event_count right) z y (IsBefore left i z y) (IsBefore right (i + event_count left) z y) lt (before_rises right (i + event_count left) z y) c);
+    })
+chain_left entry left right i x y lt (inr p) = inr p
+
+chain_right : (entry : Option ℕ) (left right : Term) (i x y : ℕ) → (i + event_count left) ≤ y → Found (Some (i + event_count left - 1)) right (i + event_count left) x y → Found entry (chain left right) i x y
+chain_right entry left right i x y ge (inl d) =
+    let r = before_rises right (i + event_count left) x y d.before in
+    inl (record {
+      before = inr (inr d.before);
+      nothing_between = λ z b c.
+        let low = before_rises (chain left right) i x z b in
+        d.nothing_between z
+          (joined_right i (i + event_count left) (i + event_count left + event_count right) x z (IsBefore left i x z) (IsBefore right (i + event_count left) x z) (omega arith) (before_rises left i x z) b)
+          (joined_right i (i + event_count left) (i + event_count left + event_count right) z y (IsBefore left i z y) (IsBefore right (i + event_count left) z y) (omega arith) (before_rises left i z y) c);
+    })
+chain_right entry left right i x y ge (inr p) =
+    let last : i + event_count left - 1 ≡ x = cc in
+    let e = p.0 in
+    let some = some_event left in
+    let more = some_event right in
+    inl (adjacent (chain left right) i x y (omega arith) (inl (record { from = omega arith; left = omega arith; right = omega arith; below = omega arith })))
+
+chain_found : (entry : Option ℕ) (left right : Term) (i x y : ℕ) → (IsEvent left i y → Names (needs_behind entry left i y) x → Found entry left i x y) → (IsEvent right (i + event_count left) y → Names (needs_behind (Some (i + event_count left - 1)) right (i + event_count left) y) x → Found (Some (i + event_count left - 1)) right (i + event_count left) x y) → IsEvent (chain left right) i y → Names (needs_behind entry (chain left right) i y) x → Found entry (chain left right) i x y
+chain_found entry left right i x y l r event =
+    by_order y (i + event_count left) (needs_behind entry left i y) (needs_behind (Some (i + event_count left - 1)) right (i + event_count left) y) (λ n. Names n x → Found entry (chain left right) i x y)
+      (λ lt h. chain_left entry left right i x y lt (l (record { from = omega arith; below = omega arith }) h))
+      (λ ge h. chain_right entry left right i x y ge (r (record { from = omega arith; below = omega arith }) h))
+
+-- a fact of the frame of a sequential branch, from that of a request for the chain of its arms
+seq_from_request : (entry : Option ℕ) (split : Split) (left right : Term) (i x y : ℕ) → Found entry (at [] (chain left right)) i x y → Found entry (seq split left right) i x y
+seq_from_request entry split left right i x y (inl d) = inl (record { before = d.before; nothing_between = d.nothing_between })
+seq_from_request entry split left right i x y (inr p) = inr p
+
+par_left : (entry : Option ℕ) (split : Split) (left right : Term) (i x y : ℕ) → i < y → y < (i + 1 + event_count left) → Found (Some i) left (i + 1) x y → Found entry (par split left right) i x y
+par_left entry split left right i x y from lt (inl d) =
+    let r = before_rises left (i + 1) x y d.before in
+    let some = some_event right in
+    inl (record {
+      before = inr (inr (inl d.before));
+      nothing_between = λ z b c.
+        let low = before_rises (par split left right) i x z b in
+        let high = before_rises (par split left right) i z y c in
+        d.nothing_between z
+          (joined_left (i + 1) (i + 1 + event_count left) (i + (2 + (event_count left + event_count right))) x z (IsBefore left (i + 1) x z) (IsBefore right (i + 1 + event_count left) x z) (omega arith) (λ k. let h = before_rises right (i + 1 + event_count left) x z k in record { from = omega arith; less = omega arith; below = omega arith })
+            (inr (framed_inside i (i + (2 + (event_count left + event_count right))) x z (IsBefore left (i + 1) x z ⊎ IsBefore right (i + 1 + event_count left) x z) (omega arith) (omega arith) b)))
+          (joined_left (i + 1) (i + 1 + event_count left) (i + (2 + (event_count left + event_count right))) z y (IsBefore left (i + 1) z y) (IsBefore right (i + 1 + event_count left) z y) lt (λ k. let h = before_rises right (i + 1 + event_count left) z y k in record { from = omega arith; less = omega arith; below = omega arith })
+            (inr (framed_inside i (i + (2 + (event_count left + event_count right))) z y (IsBefore left (i + 1) z y ⊎ IsBefore right (i + 1 + event_count left) z y) (omega arith) (omega arith) c)));
+    })
+par_left entry split left right i x y from lt (inr p) =
+    let start : i ≡ x = cc in
+    let e = p.0 in
+    inl (adjacent (par split left right) i x y (omega arith) (inl (record { first = omega arith; later = omega arith; below = omega arith })))
+
+-- nothing of the arms is before the first event of the right one, nor after the last of the left one
+starts_right : (left right : Term) (i z y : ℕ) → y ≡ (i + 1 + event_count left) → (IsBefore left (i + 1) z y ⊎ IsBefore right (i + 1 + event_count left) z y) → ⊥
+starts_right left right i z y e (inl b) =
+    let h = before_rises left (i + 1) z y b in
+    omega arith
+starts_right left right i z y e (inr b) =
+    let h = before_rises right (i + 1 + event_count left) z y b in
+    omega arith
+
+ends_left : (left right : Term) (i x z : ℕ) → x + 1 ≡ (i + 1 + event_count left) → (IsBefore left (i + 1) x z ⊎ IsBefore right (i + 1 + event_count left) x z) → ⊥
+ends_left left right i x z e (inl b) =
+    let h = before_rises left (i + 1) x z b in
+    omega arith
+ends_left left right i x z e (inr b) =
+    let h = before_rises right (i + 1 + event_count left) x z b in
+    omega arith
+
+par_right : (entry : Option ℕ) (split : Split) (left right : Term) (i x y : ℕ) → (i + 1 + event_count left) ≤ y → y + 1 < (i + (2 + (event_count left + event_count right))) → Found (Some i) right (i + 1 + event_count left) x y → Found entry (par split left right) i x y
+par_right entry split left right i x y ge below (inl d) =
+    let r = before_rises right (i + 1 + event_count left) x y d.before in
+    let some = some_event left in
+    inl (record {
+      before = inr (inr (inr d.before));
+      nothing_between = λ z b c.
+        let low = before_rises (par split left right) i x z b in
+        let high = before_rises (par split left right) i z y c in
+        d.nothing_between z
+          (joined_right (i + 1) (i + 1 + event_count left) (i + (2 + (event_count left + event_count right))) x z (IsBefore left (i + 1) x z) (IsBefore right (i + 1 + event_count left) x z) (omega arith) (before_rises left (i + 1) x z)
+            (inr (framed_inside i (i + (2 + (event_count left + event_count right))) x z (IsBefore left (i + 1) x z ⊎ IsBefore right (i + 1 + event_count left) x z) (omega arith) (omega arith) b)))
+          (joined_right (i + 1) (i + 1 + event_count left) (i + (2 + (event_count left + event_count right))) z y (IsBefore left (i + 1) z y) (IsBefore right (i + 1 + event_count left) z y) (omega arith) (before_rises left (i + 1) z y)
+            (inr (framed_inside i (i + (2 + (event_count left + event_count right))) z y (IsBefore left (i + 1) z y ⊎ IsBefore right (i + 1 + event_count left) z y) (omega arith) below c)));
+    })
+par_right entry split left right i x y ge below (inr p) =
+    let start : i ≡ x = cc in
+    let e = p.0 in
+    let some = some_event left in
+    inl (record {
+      before = inl (record { first = omega arith; later = omega arith; below = omega arith });
+      nothing_between = λ z b c.
+        let low = before_rises (par split left right) i x z b in
+        let high = before_rises (par split left right) i z y c in
+        absurd (starts_right left right i z y e (framed_inside i (i + (2 + (event_count left + event_count right))) z y (IsBefore left (i + 1) z y ⊎ IsBefore right (i + 1 + event_count left) z y) (omega arith) below c));
+    })
+
+par_last : (entry : Option ℕ) (split : Split) (left right : Term) (i x y : ℕ) → IsEvent (par split left right) i y → i + 1 + (event_count left + event_count right) ≤ y → Names (record { first = Some (i + event_count left); second = Some (i + (event_count left + event_count right)) }) x → Found entry (par split left right) i x y
+par_last entry split left right i x y event ge (inl n) =
+    let e : i + event_count left ≡ x = cc in
+    let l = some_event left in
+    let r = some_event right in
+    inl (record {
+      before = inr (inl (record { from = omega arith; earlier = omega arith; last = omega arith }));
+      nothing_between = λ z b c.
+        let low = before_rises (par split left right) i x z b in
+        let high = before_rises (par split left right) i z y c in
+        ends_left left right i x z (omega arith) (framed_inside i (i + (2 + (event_count left + event_count right))) x z (IsBefore left (i + 1) x z ⊎ IsBefore right (i + 1 + event_count left) x z) (omega arith) (omega arith) b);
+    })
+par_last entry split left right i x y event ge (inr n) =
+    let e : i + (event_count left + event_count right) ≡ x = cc in
+    let l = some_event left in
+    inl (adjacent (par split left right) i x y (omega arith) (inr (inl (record { from = omega arith; earlier = omega arith; last = omega arith }))))
+
+par_found : (entry : Option ℕ) (split : Split) (left right : Term) (i x y : ℕ) → (IsEvent left (i + 1) y → Names (needs_behind (Some i) left (i + 1) y) x → Found (Some i) left (i + 1) x y) → (IsEvent right (i + 1 + event_count left) y → Names (needs_behind (Some i) right (i + 1 + event_count left) y) x → Found (Some i) right (i + 1 + event_count left) x y) → IsEvent (par split left right) i y → Names (needs_behind entry (par split left right) i y) x → Found entry (par split left right) i x y
+par_found entry split left right i x y l r event =
+    by_place y i (i + 1 + (event_count left + event_count right)) (only entry) (cond (ltb y (i + 1 + event_count left)) (needs_behind (Some i) left (i + 1) y) (needs_behind (Some i) right (i + 1 + event_count left) y)) (record { first = Some (i + event_count left); second = Some (i + (event_count left + event_count right)) }) (λ n. Names n x → Found entry (par split left right) i x y)
+      (λ e h. inr (e, only_names entry x h))
+      (λ ne inside. by_order y (i + 1 + event_count left) (needs_behind (Some i) left (i + 1) y) (needs_behind (Some i) right (i + 1 + event_count left) y) (λ n. Names n x → Found entry (par split left right) i x y)
+        (λ lt h. par_left entry split left right i x y (omega arith) lt (l (record { from = omega arith; below = omega arith }) h))
+        (λ ge h. par_right entry split left right i x y ge (omega arith) (r (record { from = omega arith; below = omega arith }) h)))
+      (λ ge h. par_last entry split left right i x y event ge h)
+
+-- what is named is a direct predecessor, or what the phrase is entered from
+pub names_found : (entry : Option ℕ) (phrase : Term) (i x y : ℕ) → IsEvent phrase i y → Names (needs_behind entry phrase i y) x → Found entry phrase i x y
+names_found entry cpy i x y event h = inr (omega arith, only_names entry x h)
+names_found entry sig i x y event h = inr (omega arith, only_names entry x h)
+names_found entry hsh i x y event h = inr (omega arith, only_names entry x h)
+names_found entry (usm asp) i x y event h = inr (omega arith, only_names entry x h)
+names_found entry (kim target asp) i x y event h = inr (omega arith, only_names entry x h)
+names_found entry (at asked body) i x y event h = request_found entry asked body i x y (names_found (Some i) body (i + 1) x y) event h
+names_found entry (chain left right) i x y event h =
+    chain_found entry left right i x y (names_found entry left i x y) (names_found (Some (i + event_count left - 1)) right (i + event_count left) x y) event h
+names_found entry (seq split left right) i x y event h =
+    seq_from_request entry split left right i x y
+      (request_found entry [] (chain left right) i x y
+        (chain_found (Some i) left right (i + 1) x y (names_found (Some i) left (i + 1) x y) (names_found (Some (i + 1 + event_count left - 1)) right (i + 1 + event_count left) x y))
+        (record { from = omega arith; below = omega arith }) h)
+names_found entry (par split left right) i x y event h =
+    par_found entry split left right i x y (names_found (Some i) left (i + 1) x y) (names_found (Some i) right (i + 1 + event_count left) x y) event h
