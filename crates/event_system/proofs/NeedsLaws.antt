@@ -227,3 +227,226 @@ names_found entry (seq split left right) i x y event h =
         (record { from = omega arith; below = omega arith }) h)
 names_found entry (par split left right) i x y event h =
     par_found entry split left right i x y (names_found (Some i) left (i + 1) x y) (names_found (Some i) right (i + 1 + event_count left) x y) event h
+
+-- x is named, or before one that is
+abbrev pub IsCovered : Term → ℕ → Needs → ℕ → Type 0
+IsCovered phrase i needs x = Names needs x ⊎ ((z : ℕ) × (Names needs z × IsBefore phrase i x z))
+
+-- for y something is named: what the phrase is entered from, where y is its first event, or an event of it
+abbrev IsEntered : Option ℕ → Term → ℕ → ℕ → Type 0
+IsEntered entry phrase i y =
+    ((y ≡ i) × (needs_behind entry phrase i y ≡ only entry)) ⊎ ((z : ℕ) × (Names (needs_behind entry phrase i y) z × IsEvent phrase i z))
+
+entered_by : (entry : Option ℕ) (phrase : Term) (i y : ℕ) → i < y → y < i + event_count phrase → IsCovered phrase i (needs_behind entry phrase i y) i → IsEntered entry phrase i y
+entered_by entry phrase i y from below (inl n) = inr (i, (n, record { from = omega arith; below = omega arith }))
+entered_by entry phrase i y from below (inr w) =
+    let h = before_rises phrase i i w.0 w.1.1 in
+    inr (w.0, (w.1.0, record { from = omega arith; below = omega arith }))
+
+entered : (entry : Option ℕ) (phrase : Term) (i y : ℕ) → IsEvent phrase i y → (IsBefore phrase i i y → IsCovered phrase i (needs_behind entry phrase i y) i) → IsEntered entry phrase i y
+entered entry phrase i y event covered =
+    elim (cases_lt i y) [
+      inl lt ↦ entered_by entry phrase i y lt event.below (covered (first_before phrase i y lt event.below))
+    | inr ge ↦
+        let e : i ≡ y = omega arith in
+        inl (sym e, subst (λ n. needs_behind entry phrase i n ≡ only entry) e (needs_at_start entry phrase i))
+    ]
+
+-- what stands before a phrase is covered where its first event is entered from there
+opened : (entry : ℕ) (whole part : Term) (i j y : ℕ) → IsEntered (Some entry) part j y → ((z : ℕ) → IsEvent part j z → IsBefore whole i entry z) → IsCovered whole i (needs_behind (Some entry) part j y) entry
+opened entry whole part i j y (inl p) reaches = inl (inl (ap (λ n. n.first) p.1))
+opened entry whole part i j y (inr w) reaches = inr (w.0, (w.1.0, reaches w.0 w.1.1))
+
+-- a cover in a part is one in the whole
+lifted : (whole part : Term) (i j x : ℕ) (needs : Needs) → ((z : ℕ) → IsBefore part j x z → IsBefore whole i x z) → IsCovered part j needs x → IsCovered whole i needs x
+lifted whole part i j x needs lift (inl n) = inl n
+lifted whole part i j x needs lift (inr w) = inr (w.0, (w.1.0, lift w.0 w.1.1))
+
+-- all up to the last of a part is covered by the last
+up_to : (whole : Term) (i x last : ℕ) (needs : Needs) → Names needs last → x ≤ last → (x < last → IsBefore whole i x last) → IsCovered whole i needs x
+up_to whole i x last needs named le before =
+    elim (cases_lt x last) [
+      inl lt ↦ inr (last, (named, before lt))
+    | inr ge ↦
+        let e : last ≡ x = omega arith in
+        inl (subst (λ n. Names needs n) e named)
+    ]
+
+request_last_reached : (asked : List ℕ) (body : Term) (i x : ℕ) → i ≤ x → x < i + event_count body → IsBefore (at asked body) i x (i + event_count body)
+request_last_reached asked body i x from below =
+    elim (cases_lt i x) [
+      inl lt ↦ inr (inr (before_last body (i + 1) x (i + event_count body) (omega arith) below (omega arith)))
+    | inr ge ↦ inl (record { first = omega arith; later = omega arith; below = omega arith })
+    ]
+
+request_covers : (entry : Option ℕ) (asked : List ℕ) (body : Term) (i x y : ℕ) → ((w : ℕ) → IsBefore body (i + 1) w y → IsCovered body (i + 1) (needs_behind (Some i) body (i + 1) y) w) → IsBefore (at asked body) i x y → IsCovered (at asked body) i (needs_behind entry (at asked body) i y) x
+request_covers entry asked body i x y covered (inl o) =
+    by_place y i (i + 1 + event_count body) (only entry) (needs_behind (Some i) body (i + 1) y) (only (Some (i + event_count body))) (λ n. IsCovered (at asked body) i n x)
+      (λ e. absurd (omega arith))
+      (λ ne lt.
+        let start : i ≡ x = sym o.first in
+        subst (λ n. IsCovered (at asked body) i (needs_behind (Some i) body (i + 1) y) n) start
+          (opened i (at asked body) body i (i + 1) y (entered (Some i) body (i + 1) y (record { from = omega arith; below = omega arith }) (covered (i + 1))) (λ z event. inl (record { first = refl; later = omega (arith, event.from); below = omega (arith, event.below) }))))
+      (λ ge.
+        let some = some_event body in
+        inr (i + event_count body, (inl refl, inl (record { first = omega arith; later = omega arith; below = omega arith }))))
+request_covers entry asked body i x y covered (inr (inl c)) =
+    by_place y i (i + 1 + event_count body) (only entry) (needs_behind (Some i) body (i + 1) y) (only (Some (i + event_count body))) (λ n. IsCovered (at asked body) i n x)
+      (λ e. absurd (omega arith))
+      (λ ne lt. absurd (omega arith))
+      (λ ge. up_to (at asked body) i x (i + event_count body) (only (Some (i + event_count body))) (inl refl) (omega arith) (request_last_reached asked body i x c.from))
+request_covers entry asked body i x y covered (inr (inr b)) =
+    let r = before_rises body (i + 1) x y b in
+    by_place y i (i + 1 + event_count body) (only entry) (needs_behind (Some i) body (i + 1) y) (only (Some (i + event_count body))) (λ n. IsCovered (at asked body) i n x)
+      (λ e. absurd (omega arith))
+      (λ ne lt. lifted (at asked body) body i (i + 1) x (needs_behind (Some i) body (i + 1) y) (λ z k. inr (inr k)) (covered x b))
+      (λ ge. absurd (omega arith))
+
+chain_crossed : (left right : Term) (i x y : ℕ) → Crosses i (i + event_count left) (i + event_count left + event_count right) x y → IsEntered (Some (i + event_count left - 1)) right (i + event_count left) y → IsCovered (chain left right) i (needs_behind (Some (i + event_count left - 1)) right (i + event_count left) y) x
+chain_crossed left right i x y c (inl p) =
+    let some = some_event left in
+    let more = some_event right in
+    up_to (chain left right) i x (i + event_count left - 1) (needs_behind (Some (i + event_count left - 1)) right (i + event_count left) y) (inl (ap (λ n. n.first) p.1)) (omega arith)
+      (λ lt. inr (inl (before_last left i x (i + event_count left - 1) c.from lt (omega arith))))
+chain_crossed left right i x y c (inr w) =
+    let event = w.1.1 in
+    inr (w.0, (w.1.0, inl (record { from = omega arith; left = omega arith; right = omega arith; below = omega arith })))
+
+chain_covers : (entry : Option ℕ) (left right : Term) (i x y : ℕ) → (IsBefore left i x y → IsCovered left i (needs_behind entry left i y) x) → ((w : ℕ) → IsBefore right (i + event_count left) w y → IsCovered right (i + event_count left) (needs_behind (Some (i + event_count left - 1)) right (i + event_count left) y) w) → IsBefore (chain left right) i x y → IsCovered (chain left right) i (needs_behind entry (chain left right) i y) x
+chain_covers entry left right i x y l r (inl c) =
+    by_order y (i + event_count left) (needs_behind entry left i y) (needs_behind (Some (i + event_count left - 1)) right (i + event_count left) y) (λ n. IsCovered (chain left right) i n x)
+      (λ lt. absurd (omega arith))
+      (λ ge. chain_crossed left right i x y c (entered (Some (i + event_count left - 1)) right (i + event_count left) y (record { from = omega arith; below = omega arith }) (r (i + event_count left))))
+chain_covers entry left right i x y l r (inr (inl b)) =
+    let h = before_rises left i x y b in
+    by_order y (i + event_count left) (needs_behind entry left i y) (needs_behind (Some (i + event_count left - 1)) right (i + event_count left) y) (λ n. IsCovered (chain left right) i n x)
+      (λ lt. lifted (chain left right) left i i x (needs_behind entry left i y) (λ z k. inr (inl k)) (l b))
+      (λ ge. absurd (omega arith))
+chain_covers entry left right i x y l r (inr (inr b)) =
+    let h = before_rises right (i + event_count left) x y b in
+    by_order y (i + event_count left) (needs_behind entry left i y) (needs_behind (Some (i + event_count left - 1)) right (i + event_count left) y) (λ n. IsCovered (chain left right) i n x)
+      (λ lt. absurd (omega arith))
+      (λ ge. lifted (chain left right) right i (i + event_count left) x (needs_behind (Some (i + event_count left - 1)) right (i + event_count left) y) (λ z k. inr (inr k)) (r x b))
+
+par_last_reached : (split : Split) (left right : Term) (i x : ℕ) → i ≤ x → x < i + (event_count left + event_count right) + 1 → IsCovered (par split left right) i (record { first = Some (i + event_count left); second = Some (i + (event_count left + event_count right)) }) x
+par_last_reached split left right i x from below =
+    let l = some_event left in
+    let r = some_event right in
+    elim (cases_lt x (i + 1 + event_count left)) [
+      inl lt ↦ up_to (par split left right) i x (i + event_count left) (record { first = Some (i + event_count left); second = Some (i + (event_count left + event_count right)) }) (inl refl) (omega arith)
+        (λ less. elim (cases_lt i x) [
+          inl lt' ↦ inr (inr (inl (before_last left (i + 1) x (i + event_count left) (omega arith) less (omega arith))))
+        | inr ge ↦ inl (record { first = omega arith; later = omega arith; below = omega arith })
+        ])
+    | inr ge ↦ up_to (par split left right) i x (i + (event_count left + event_count right)) (record { first = Some (i + event_count left); second = Some (i + (event_count left + event_count right)) }) (inr refl) (omega arith)
+        (λ less. inr (inr (inr (before_last right (i + 1 + event_count left) x (i + (event_count left + event_count right)) ge less (omega arith)))))
+    ]
+
+par_opened : (split : Split) (left right part : Term) (i j y : ℕ) → i < j → j + event_count part < (i + (2 + (event_count left + event_count right))) → IsEntered (Some i) part j y → IsCovered (par split left right) i (needs_behind (Some i) part j y) i
+par_opened split left right part i j y from below h =
+    opened i (par split left right) part i j y h (λ z event. inl (record { first = refl; later = omega (arith, event.from); below = omega (arith, event.below) }))
+
+par_covers : (entry : Option ℕ) (split : Split) (left right : Term) (i x y : ℕ) → ((w : ℕ) → IsBefore left (i + 1) w y → IsCovered left (i + 1) (needs_behind (Some i) left (i + 1) y) w) → ((w : ℕ) → IsBefore right (i + 1 + event_count left) w y → IsCovered right (i + 1 + event_count left) (needs_behind (Some i) right (i + 1 + event_count left) y) w) → IsBefore (par split left right) i x y → IsCovered (par split left right) i (needs_behind entry (par split left right) i y) x
+par_covers entry split left right i x y l r (inl o) =
+    let some = some_event left in
+    let more = some_event right in
+    let start : i ≡ x = sym o.first in
+    by_place y i (i + 1 + (event_count left + event_count right)) (only entry) (cond (ltb y (i + 1 + event_count left)) (needs_behind (Some i) left (i + 1) y) (needs_behind (Some i) right (i + 1 + event_count left) y)) (record { first = Some (i + event_count left); second = Some (i + (event_count left + event_count right)) }) (λ n. IsCovered (par split left right) i n x)
+      (λ e. absurd (omega arith))
+      (λ ne inside. by_order y (i + 1 + event_count left) (needs_behind (Some i) left (i + 1) y) (needs_behind (Some i) right (i + 1 + event_count left) y) (λ n. IsCovered (par split left right) i n x)
+        (λ lt. subst (λ n. IsCovered (par split left right) i (needs_behind (Some i) left (i + 1) y) n) start
+          (par_opened split left right left i (i + 1) y (omega arith) (omega arith) (entered (Some i) left (i + 1) y (record { from = omega arith; below = omega arith }) (l (i + 1)))))
+        (λ ge. subst (λ n. IsCovered (par split left right) i (needs_behind (Some i) right (i + 1 + event_count left) y) n) start
+          (par_opened split left right right i (i + 1 + event_count left) y (omega arith) (omega arith) (entered (Some i) right (i + 1 + event_count left) y (record { from = omega arith; below = omega arith }) (r (i + 1 + event_count left))))))
+      (λ ge. par_last_reached split left right i x (omega arith) (omega arith))
+par_covers entry split left right i x y l r (inr (inl c)) =
+    by_place y i (i + 1 + (event_count left + event_count right)) (only entry) (cond (ltb y (i + 1 + event_count left)) (needs_behind (Some i) left (i + 1) y) (needs_behind (Some i) right (i + 1 + event_count left) y)) (record { first = Some (i + event_count left); second = Some (i + (event_count left + event_count right)) }) (λ n. IsCovered (par split left right) i n x)
+      (λ e. absurd (omega arith))
+      (λ ne inside. absurd (omega arith))
+      (λ ge. par_last_reached split left right i x c.from (omega arith))
+par_covers entry split left right i x y l r (inr (inr (inl b))) =
+    let h = before_rises left (i + 1) x y b in
+    by_place y i (i + 1 + (event_count left + event_count right)) (only entry) (cond (ltb y (i + 1 + event_count left)) (needs_behind (Some i) left (i + 1) y) (needs_behind (Some i) right (i + 1 + event_count left) y)) (record { first = Some (i + event_count left); second = Some (i + (event_count left + event_count right)) }) (λ n. IsCovered (par split left right) i n x)
+      (λ e. absurd (omega arith))
+      (λ ne inside. by_order y (i + 1 + event_count left) (needs_behind (Some i) left (i + 1) y) (needs_behind (Some i) right (i + 1 + event_count left) y) (λ n. IsCovered (par split left right) i n x)
+        (λ lt. lifted (par split left right) left i (i + 1) x (needs_behind (Some i) left (i + 1) y) (λ z k. inr (inr (inl k))) (l x b))
+        (λ ge. absurd (omega arith)))
+      (λ ge. absurd (omega arith))
+par_covers entry split left right i x y l r (inr (inr (inr b))) =
+    let h = before_rises right (i + 1 + event_count left) x y b in
+    by_place y i (i + 1 + (event_count left + event_count right)) (only entry) (cond (ltb y (i + 1 + event_count left)) (needs_behind (Some i) left (i + 1) y) (needs_behind (Some i) right (i + 1 + event_count left) y)) (record { first = Some (i + event_count left); second = Some (i + (event_count left + event_count right)) }) (λ n. IsCovered (par split left right) i n x)
+      (λ e. absurd (omega arith))
+      (λ ne inside. by_order y (i + 1 + event_count left) (needs_behind (Some i) left (i + 1) y) (needs_behind (Some i) right (i + 1 + event_count left) y) (λ n. IsCovered (par split left right) i n x)
+        (λ lt. absurd (omega arith))
+        (λ ge. lifted (par split left right) right i (i + 1 + event_count left) x (needs_behind (Some i) right (i + 1 + event_count left) y) (λ z k. inr (inr (inr k))) (r x b)))
+      (λ ge. absurd (omega arith))
+
+-- each event before y is named, or before one that is
+pub before_covered : (entry : Option ℕ) (phrase : Term) (i x y : ℕ) → IsBefore phrase i x y → IsCovered phrase i (needs_behind entry phrase i y) x
+before_covered entry cpy i x y h = absurd h
+before_covered entry sig i x y h = absurd h
+before_covered entry hsh i x y h = absurd h
+before_covered entry (usm asp) i x y h = absurd h
+before_covered entry (kim target asp) i x y h = absurd h
+before_covered entry (at asked body) i x y h = request_covers entry asked body i x y (λ w. before_covered (Some i) body (i + 1) w y) h
+before_covered entry (chain left right) i x y h =
+    chain_covers entry left right i x y (before_covered entry left i x y) (λ w. before_covered (Some (i + event_count left - 1)) right (i + event_count left) w y) h
+before_covered entry (seq split left right) i x y h =
+    request_covers entry [] (chain left right) i x y
+      (λ w. chain_covers (Some i) left right (i + 1) w y (before_covered (Some i) left (i + 1) w y) (λ v. before_covered (Some (i + 1 + event_count left - 1)) right (i + 1 + event_count left) v y)) h
+before_covered entry (par split left right) i x y h =
+    par_covers entry split left right i x y (λ w. before_covered (Some i) left (i + 1) w y) (λ w. before_covered (Some i) right (i + 1 + event_count left) w y) h
+
+-- where two are named, the first has the lesser number
+abbrev pub Rises : Needs → Type 0
+Rises needs = (second : ℕ) → needs.second ≡ Some second → (first : ℕ) × ((needs.first ≡ Some first) × (first < second))
+
+only_rises : (entry : Option ℕ) → Rises (only entry)
+only_rises entry second e = absurd (cc)
+
+pub needs_rise : (entry : Option ℕ) (phrase : Term) (i y : ℕ) → Rises (needs_behind entry phrase i y)
+needs_rise entry cpy i y = only_rises entry
+needs_rise entry sig i y = only_rises entry
+needs_rise entry hsh i y = only_rises entry
+needs_rise entry (usm asp) i y = only_rises entry
+needs_rise entry (kim target asp) i y = only_rises entry
+needs_rise entry (at asked body) i y =
+    by_place y i (i + 1 + event_count body) (only entry) (needs_behind (Some i) body (i + 1) y) (only (Some (i + event_count body))) Rises
+      (λ e. only_rises entry) (λ ne lt. needs_rise (Some i) body (i + 1) y) (λ ge. only_rises (Some (i + event_count body)))
+needs_rise entry (chain left right) i y =
+    by_order y (i + event_count left) (needs_behind entry left i y) (needs_behind (Some (i + event_count left - 1)) right (i + event_count left) y) Rises
+      (λ lt. needs_rise entry left i y) (λ ge. needs_rise (Some (i + event_count left - 1)) right (i + event_count left) y)
+needs_rise entry (seq split left right) i y =
+    by_place y i (i + 1 + (event_count left + event_count right)) (only entry) (needs_behind (Some i) (chain left right) (i + 1) y) (only (Some (i + (event_count left + event_count right)))) Rises
+      (λ e. only_rises entry)
+      (λ ne lt. by_order y (i + 1 + event_count left) (needs_behind (Some i) left (i + 1) y) (needs_behind (Some (i + 1 + event_count left - 1)) right (i + 1 + event_count left) y) Rises
+        (λ lt. needs_rise (Some i) left (i + 1) y) (λ ge. needs_rise (Some (i + 1 + event_count left - 1)) right (i + 1 + event_count left) y))
+      (λ ge. only_rises (Some (i + (event_count left + event_count right))))
+needs_rise entry (par split left right) i y =
+    by_place y i (i + 1 + (event_count left + event_count right)) (only entry) (cond (ltb y (i + 1 + event_count left)) (needs_behind (Some i) left (i + 1) y) (needs_behind (Some i) right (i + 1 + event_count left) y)) (record { first = Some (i + event_count left); second = Some (i + (event_count left + event_count right)) }) Rises
+      (λ e. only_rises entry)
+      (λ ne lt. by_order y (i + 1 + event_count left) (needs_behind (Some i) left (i + 1) y) (needs_behind (Some i) right (i + 1 + event_count left) y) Rises
+        (λ lt. needs_rise (Some i) left (i + 1) y) (λ ge. needs_rise (Some i) right (i + 1 + event_count left) y))
+      (λ ge second e.
+        let some = some_event right in
+        let is : i + (event_count left + event_count right) ≡ second = cc in
+        (i + event_count left, (refl, omega arith)))
+
+-- the direct predecessors of an event are those that are named
+pub direct_named : (phrase : Term) (i x y : ℕ) → IsDirectlyBefore phrase i x y → Names (needs_behind None phrase i y) x
+direct_named phrase i x y d =
+    let r = before_rises phrase i x y d.before in
+    elim (before_covered None phrase i x y d.before) [
+      inl n ↦ n
+    | inr w ↦ elim (names_found None phrase i w.0 y (record { from = omega arith; below = omega arith }) w.1.0) [
+        inl e ↦ absurd (d.nothing_between w.0 w.1.1 e.before)
+      | inr p ↦ absurd (omega (arith, p.0))
+      ]
+    ]
+
+pub named_direct : (phrase : Term) (i x y : ℕ) → IsEvent phrase i y → Names (needs_behind None phrase i y) x → IsDirectlyBefore phrase i x y
+named_direct phrase i x y event n =
+    elim (names_found None phrase i x y event n) [
+      inl d ↦ d
+    | inr p ↦ let e = p.1 in absurd (cc)
+    ]
