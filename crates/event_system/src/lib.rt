@@ -6,9 +6,12 @@
 mod direct;
 mod event;
 mod fault;
+mod list;
+mod order;
 mod system;
 
 pub use direct::Needs;
 pub use event::{Event, EventKind};
 pub use fault::TraceFault;
-pub use system::EventSystem;
+pub use list::{EventList, list_of};
+pub use system::{EventSystem, system_of};
