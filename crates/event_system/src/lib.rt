@@ -14,4 +14,5 @@ pub use direct::Needs;
 pub use event::{Event, EventKind};
 pub use fault::TraceFault;
 pub use list::{EventList, list_of};
+pub use order::before;
 pub use system::{EventSystem, system_of};
