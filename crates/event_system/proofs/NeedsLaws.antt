@@ -6,7 +6,7 @@ use Rattle.phrase_tree.specs.Term.{Term, cpy, sig, hsh, usm, kim, at, chain, seq
 use Rattle.phrase_tree.specs.Numbering.{event_count}
 use Rattle.event_system.specs.declared.direct.Needs.{Needs}
 use Rattle.event_system.specs.Order.{IsEvent, Opens, Closes, Crosses, IsBefore, IsDirectlyBefore}
-use Rattle.event_system.specs.Needs.{only, Names, needs_behind, needs_of}
+use Rattle.event_system.specs.Needs.{only, Names, needs_behind, needs_of, AreNeeds}
 use Rattle.event_system.proofs.OrderLaws.{IsRising, some_event, before_rises, first_before, before_last, framed_inside, joined_left, joined_right}
 
 -- a fact of a choice by an order of numbers, and of one between first, inside and last
@@ -450,3 +450,39 @@ named_direct phrase i x y event n =
       inl d ↦ d
     | inr p ↦ let e = p.1 in absurd (cc)
     ]
+
+none_or_some : (o : Option ℕ) → (o ≡ None) ⊎ ((n : ℕ) × (o ≡ Some n))
+none_or_some None = inl refl
+none_or_some (Some n) = inr (n, refl)
+
+none_first : (needs : Needs) → Rises needs → needs.first ≡ None → needs.second ≡ None
+none_first needs rises none =
+    elim (none_or_some needs.second) [
+      inl e ↦ e
+    | inr w ↦
+        let found = rises w.0 w.1 in
+        let some = found.1.0 in
+        absurd (cc)
+    ]
+
+rising : (needs : Needs) → Rises needs → (x second : ℕ) → needs.second ≡ Some second → needs.first ≡ Some x → x < second
+rising needs rises x second s f =
+    let found = rises second s in
+    let some = found.1.0 in
+    let same : found.0 ≡ x = cc in
+    omega (arith, found.1.1)
+
+-- the walk from the root gives the direct predecessors of each number
+pub needs_are : (phrase : Term) (y : ℕ) → AreNeeds phrase y (needs_of phrase y)
+needs_are phrase y =
+    by_order y (event_count phrase) (needs_behind None phrase 0 y) (only None) (λ n. AreNeeds phrase y n)
+      (λ lt. record {
+        each = λ x. (named_direct phrase 0 x y (record { from = omega arith; below = omega arith }), direct_named phrase 0 x y);
+        rising = rising (needs_behind None phrase 0 y) (needs_rise None phrase 0 y);
+        first_filled = none_first (needs_behind None phrase 0 y) (needs_rise None phrase 0 y);
+      })
+      (λ ge. record {
+        each = λ x. (λ n. let e = only_names None x n in absurd (cc), λ d. let r = before_rises phrase 0 x y d.before in absurd (omega arith));
+        rising = rising (only None) (only_rises None);
+        first_filled = none_first (only None) (only_rises None);
+      })

@@ -3,4 +3,5 @@ pub mod Trace
 pub mod Events
 pub mod System
 pub mod Needs
+pub mod Sought
 pub mod Fault

@@ -1,10 +1,10 @@
 -- The direct predecessors of an event, by going down the phrase. That they are the direct
 -- predecessors of the order is a law.
-use Rattle.std.specs.Prelude.{◌≡◌, ◌+◌, ◌-◌, ◌≤◌, ◌<◌, ◌⊎◌, ℕ, Option, Some, None, nat_eq, nat_lt, nat_le, ◌&&◌, if◌then◌else◌}
+use Rattle.std.specs.Prelude.{◌≡◌, ◌+◌, ◌-◌, ◌<◌, ◌⊎◌, ◌↔◌, ℕ, Option, Some, None, nat_eq, nat_lt, if◌then◌else◌}
 use Rattle.phrase_tree.specs.Term.{Term, cpy, sig, hsh, usm, kim, at, chain, seq, par}
 use Rattle.phrase_tree.specs.Numbering.{event_count}
 use Rattle.event_system.specs.declared.direct.Needs.{Needs}
-use Rattle.event_system.specs.Order.{IsEvent}
+use Rattle.event_system.specs.Order.{IsDirectlyBefore}
 
 -- at most one direct predecessor
 abbrev pub only : Option ℕ → Needs
@@ -45,3 +45,9 @@ needs_behind entry (par split left right) i y =
 -- the direct predecessors of y in a phrase, rising; none where y is no event of it
 abbrev pub needs_of : Term → ℕ → Needs
 needs_of phrase y = if nat_lt y (event_count phrase) then needs_behind None phrase 0 y else only None
+
+-- the needs are the direct predecessors of y in a phrase that starts at 0, rising
+pub record AreNeeds (phrase : Term) (y : ℕ) (needs : Needs) : Type 0 where
+  pub each : (x : ℕ) → Names needs x ↔ IsDirectlyBefore phrase 0 x y
+  pub rising : (x second : ℕ) → needs.second ≡ Some second → needs.first ≡ Some x → x < second
+  pub first_filled : needs.first ≡ None → needs.second ≡ None

@@ -8,6 +8,7 @@ mod event;
 mod fault;
 mod list;
 mod order;
+mod predecessors;
 mod system;
 
 pub use direct::Needs;
@@ -15,4 +16,5 @@ pub use event::{Event, EventKind};
 pub use fault::TraceFault;
 pub use list::{EventList, list_of};
 pub use order::before;
+pub use predecessors::needs;
 pub use system::{EventSystem, system_of};
