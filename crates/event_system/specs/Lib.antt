@@ -4,4 +4,5 @@ pub mod Events
 pub mod System
 pub mod Needs
 pub mod Sought
+pub mod Lacking
 pub mod Fault

@@ -18,3 +18,7 @@ pub record IsTraceSoFar (phrase : Term) (i : ℕ) (trace : List ℕ) : Type 0 wh
 pub record IsTrace (phrase : Term) (i : ℕ) (trace : List ℕ) : Type 0 where
   pub so_far : IsTraceSoFar phrase i trace
   pub whole : (n : ℕ) → IsEvent phrase i n → Contains trace n
+
+-- each number up to a position may follow those ahead of it
+pub record StandsUpTo (phrase : Term) (i : ℕ) (trace : List ℕ) (position : ℕ) : Type 0 where
+  pub each : (k : ℕ) → k < position → MayFollow phrase i (take k trace) (slice_index trace k)

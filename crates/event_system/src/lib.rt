@@ -6,15 +6,19 @@
 mod direct;
 mod event;
 mod fault;
+mod laws;
 mod list;
 mod order;
 mod predecessors;
 mod system;
+mod trace;
 
 pub use direct::Needs;
 pub use event::{Event, EventKind};
 pub use fault::TraceFault;
+pub use laws::{order_law, rising_law, system_law};
 pub use list::{EventList, list_of};
 pub use order::before;
 pub use predecessors::needs;
 pub use system::{EventSystem, system_of};
+pub use trace::trace_fault;

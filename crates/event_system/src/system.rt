@@ -137,11 +137,24 @@ fn system_part(alloc: Global, phrase: &Phrase, place: Place, first: u32) -> Resu
     }
 }
 
-/// The event system of a phrase that starts at `place`, with events numbered from 0. Takes memory,
-/// and time, linear in the phrase.
+fn whole_system(alloc: Global, phrase: &Phrase, place: Place) -> Result<EventSystem, NoMemory>
+    requires { IsSized (term phrase.now) }
+    ensures { IfOk result (λ made. system made ≡ system_from (term phrase.now) place 0) }
+{
+    let whole = system_part(alloc, phrase, place, 0)?;
+    Ok(whole.system)
+}
+
+/// The event system of a phrase that starts at `place`, with events numbered from 0. Its leaves from
+/// left to right are the event list, and a `Before` orders two events exactly where the order does.
+/// Takes memory, and time, linear in the phrase.
 pub fn system_of(alloc: Global, phrase: &Phrase, place: Place) -> Result<EventSystem, NoMemory>
     requires { IsSized (term phrase.now) }
     ensures is { IfOk result (λ made. system made ≡ system_from (term phrase.now) place 0) }
+    ensures leaves { IfOk result
+        (λ made. leaves (system made) ≡ events_of (term phrase.now) place 0) }
+    ensures order { IfOk result
+        (λ made. (x y : ℕ) → Orders (system made) x y ↔ IsBefore (term phrase.now) 0 x y) }
 {
-    Ok(system_part(alloc, phrase, place, 0)?.system)
+    whole_system(alloc, phrase, place)
 }
