@@ -13,6 +13,9 @@ mod predecessors;
 mod system;
 mod trace;
 
+#[cfg(test)]
+mod tests;
+
 pub use direct::Needs;
 pub use event::{Event, EventKind};
 pub use fault::TraceFault;
