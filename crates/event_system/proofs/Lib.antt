@@ -3,3 +3,4 @@ pub mod NeedsLaws
 pub mod TraceLaws
 pub mod SystemLaws
 pub mod FaultLaws
+mod WorkedOrder
