@@ -1,5 +1,5 @@
 -- The first fault of a list of numbers is one only, and there is none exactly where it is a trace.
-use Rattle.std.proofs.Common.{◌≡◌, ℕ, ◌+◌, ◌≤◌, ◌<◌, ◌⊎◌, inl, inr, refl, sym, ap, ◌∙◌, subst, List, length, take, Option, Some, None, arith, length-take-le}
+use Rattle.std.proofs.Common.{◌≡◌, ℕ, ◌≤◌, ◌<◌, inl, inr, refl, sym, ap, ◌∙◌, subst, List, length, take, Option, Some, None, arith, length-take-le}
 use Rattle.std.specs.Prelude.{Contains, slice_index, MatchOption, ◌↔◌, IsNone}
 use Rattle.std.proofs.lemmas.Bool.{cases_lt}
 use Rattle.phrase_tree.specs.Term.{Term}
@@ -11,7 +11,7 @@ use Rattle.phrase_tree.specs.Numbering.{event_count, IsSized}
 use Rattle.event_system.specs.declared.direct.Needs.{Needs}
 use Rattle.event_system.specs.Needs.{Names, AreNeeds}
 use Rattle.event_system.specs.Lacking.{LacksNeed}
-use Rattle.event_system.specs.Fault.{StandsBehind, IsStrange, IsRepeated, IsEarly, IsMissing, IsFirstFault}
+use Rattle.event_system.specs.Fault.{StandsBehind, IsStrange, IsRepeated, IsEarly, IsFirstFault}
 use Rattle.event_system.proofs.TraceLaws.{up_to_from, so_far_short, ready_from}
 
 -- a position whose number may not follow those ahead of it, which are a trace so far
@@ -40,10 +40,10 @@ not_ahead phrase i trace p q a b lt =
 same_position : (phrase : Term) (i : ℕ) (trace : List ℕ) (p q : ℕ) → IsBad phrase i trace p → IsBad phrase i trace q → p ≡ q
 same_position phrase i trace p q a b =
     elim (cases_lt p q) [
-      inl lt ↦ absurd (not_ahead phrase i trace p q a b lt)
-    | inr ge ↦ elim (cases_lt q p) [
-        inl lt ↦ absurd (not_ahead phrase i trace q p b a lt)
-      | inr ge' ↦ omega arith
+      | inl lt ↦ absurd (not_ahead phrase i trace p q a b lt)
+      | inr ge ↦ elim (cases_lt q p) [
+        | inl lt ↦ absurd (not_ahead phrase i trace q p b a lt)
+        | inr ge' ↦ omega arith
       ]
     ]
 

@@ -4,7 +4,7 @@ use Rattle.std.proofs.Common.{◌≡◌, ℕ, List, [], ◌+◌, ◌≤◌, ◌<
 use Rattle.std.proofs.lemmas.Bool.{cases_lt}
 use Rattle.phrase_tree.specs.Term.{Term, cpy, sig, hsh, usm, kim, at, chain, seq, par}
 use Rattle.phrase_tree.specs.Numbering.{event_count}
-use Rattle.event_system.specs.Order.{IsEvent, Opens, Closes, Crosses, IsBefore}
+use Rattle.event_system.specs.Order.{Opens, Closes, Crosses, IsBefore}
 
 -- x and y are numbers of a range, and x is less than y
 pub record IsRising (low high x y : ℕ) : Type 0 where
@@ -164,8 +164,8 @@ chain_first : (left right : Term) (i y : ℕ) → (y < i + event_count left → 
 chain_first left right i y l from below =
     let some = some_event left in
     elim (cases_lt y (i + event_count left)) [
-      inl lt ↦ inr (inl (l lt))
-    | inr ge ↦ inl (record { from = omega arith; left = omega arith; right = omega arith; below = omega arith })
+      | inl lt ↦ inr (inl (l lt))
+      | inr ge ↦ inl (record { from = omega arith; left = omega arith; right = omega arith; below = omega arith })
     ]
 
 -- the first event of a phrase is before all others
@@ -191,8 +191,8 @@ before_last (at asked body) i x y from less last = inr (inl (record { from = ome
 before_last (chain left right) i x y from less last =
     let some = some_event right in
     elim (cases_lt x (i + event_count left)) [
-      inl lt ↦ inl (record { from = omega arith; left = omega arith; right = omega arith; below = omega arith })
-    | inr ge ↦ inr (inr (before_last right (i + event_count left) x y ge less (omega arith)))
+      | inl lt ↦ inl (record { from = omega arith; left = omega arith; right = omega arith; below = omega arith })
+      | inr ge ↦ inr (inr (before_last right (i + event_count left) x y ge less (omega arith)))
     ]
 before_last (seq split left right) i x y from less last = inr (inl (record { from = omega arith; earlier = omega arith; last = omega arith }))
 before_last (par split left right) i x y from less last = inr (inl (record { from = omega arith; earlier = omega arith; last = omega arith }))

@@ -1,6 +1,6 @@
 -- The event system of a phrase has the events of the event list as its leaves, and its `before`
 -- orders them as the order of the phrase does.
-use Rattle.std.proofs.Common.{◌≡◌, ℕ, ◌+◌, ◌≤◌, ◌<◌, ◌⊎◌, inl, inr, refl, sym, ap, ◌∙◌, subst, List, [], ◌∷◌, ◌++◌, arith}
+use Rattle.std.proofs.Common.{◌≡◌, ℕ, ◌+◌, ◌<◌, ◌⊎◌, inl, inr, refl, sym, ap, ◌∙◌, subst, List, [], ◌∷◌, ◌++◌, arith}
 use Rattle.std.proofs.lemmas.Bool.{cases_lt, cases_eq}
 use Rattle.std.specs.Prelude.{Result, Ok, Err, IfOk, ◌↔◌}
 use Rattle.phrase_tree.specs.declared.memory.NoMemory.{NoMemory}
@@ -8,9 +8,9 @@ use Rattle.event_system.specs.declared.system.EventSystem.{EventSystem}
 use Rattle.phrase_tree.specs.Term.{Term, cpy, sig, hsh, usm, kim, at, chain, seq, par}
 use Rattle.phrase_tree.specs.Numbering.{event_count}
 use Rattle.phrase_tree.specs.Events.{Event, event, events_of, requests, replies, splits, joins}
-use Rattle.event_system.specs.Order.{IsWithin, IsEvent, Opens, Closes, Crosses, IsBefore}
+use Rattle.event_system.specs.Order.{IsWithin, IsEvent, IsBefore}
 use Rattle.event_system.specs.System.{System, leaf, before, merge, system, leaves, HasNumber, Orders, system_from}
-use Rattle.event_system.proofs.OrderLaws.{Framed, Joined, some_event}
+use Rattle.event_system.proofs.OrderLaws.{Framed, Joined}
 
 -- the leaves are the event list
 pub leaves_are : (phrase : Term) (place : List ℕ) (i : ℕ) → leaves (system_from phrase place i) ≡ events_of phrase place i
@@ -25,10 +25,10 @@ leaves_are (chain left right) place i =
     ap (λ l. l ++ leaves (system_from right place (i + event_count left))) (leaves_are left place i) ∙ ap (λ r. events_of left place i ++ r) (leaves_are right place (i + event_count left))
 leaves_are (seq split left right) place i =
     ap (λ l. event i splits place ∷ (l ++ leaves (system_from right place (i + 1 + event_count left)) ++ event (i + 1 + event_count left + event_count right) joins place ∷ [])) (leaves_are left place (i + 1))
-      ∙ ap (λ r. event i splits place ∷ (events_of left place (i + 1) ++ r ++ event (i + 1 + event_count left + event_count right) joins place ∷ [])) (leaves_are right place (i + 1 + event_count left))
+    ∙ ap (λ r. event i splits place ∷ (events_of left place (i + 1) ++ r ++ event (i + 1 + event_count left + event_count right) joins place ∷ [])) (leaves_are right place (i + 1 + event_count left))
 leaves_are (par split left right) place i =
     ap (λ l. event i splits place ∷ (l ++ leaves (system_from right place (i + 1 + event_count left)) ++ event (i + 1 + event_count left + event_count right) joins place ∷ [])) (leaves_are left place (i + 1))
-      ∙ ap (λ r. event i splits place ∷ (events_of left place (i + 1) ++ r ++ event (i + 1 + event_count left + event_count right) joins place ∷ [])) (leaves_are right place (i + 1 + event_count left))
+    ∙ ap (λ r. event i splits place ∷ (events_of left place (i + 1) ++ r ++ event (i + 1 + event_count left + event_count right) joins place ∷ [])) (leaves_are right place (i + 1 + event_count left))
 
 -- the numbers of its leaves are those of the phrase
 number_within : (phrase : Term) (place : List ℕ) (i n : ℕ) → HasNumber (system_from phrase place i) n → IsEvent phrase i n
@@ -73,37 +73,37 @@ has_number (usm asp) place i n e = omega arith
 has_number (kim target asp) place i n e = omega arith
 has_number (at asked body) place i n e =
     elim (cases_eq n i) [
-      inl first ↦ inl first
-    | inr ne ↦ elim (cases_lt n (i + 1 + event_count body)) [
-        inl lt ↦ inr (inl (has_number body asked (i + 1) n (record { from = omega arith; below = omega arith })))
-      | inr ge ↦ inr (inr (omega arith))
+      | inl first ↦ inl first
+      | inr ne ↦ elim (cases_lt n (i + 1 + event_count body)) [
+        | inl lt ↦ inr (inl (has_number body asked (i + 1) n (record { from = omega arith; below = omega arith })))
+        | inr ge ↦ inr (inr (omega arith))
       ]
     ]
 has_number (chain left right) place i n e =
     elim (cases_lt n (i + event_count left)) [
-      inl lt ↦ inl (has_number left place i n (record { from = omega arith; below = omega arith }))
-    | inr ge ↦ inr (has_number right place (i + event_count left) n (record { from = omega arith; below = omega arith }))
+      | inl lt ↦ inl (has_number left place i n (record { from = omega arith; below = omega arith }))
+      | inr ge ↦ inr (has_number right place (i + event_count left) n (record { from = omega arith; below = omega arith }))
     ]
 has_number (seq split left right) place i n e =
     elim (cases_eq n i) [
-      inl first ↦ inl first
-    | inr ne ↦ elim (cases_lt n (i + 1 + event_count left + event_count right)) [
-        inl inside ↦ inr (inl (elim (cases_lt n (i + 1 + event_count left)) [
-            inl lt ↦ inl (has_number left place (i + 1) n (record { from = omega arith; below = omega arith }))
+      | inl first ↦ inl first
+      | inr ne ↦ elim (cases_lt n (i + 1 + event_count left + event_count right)) [
+        | inl inside ↦ inr (inl (elim (cases_lt n (i + 1 + event_count left)) [
+          | inl lt ↦ inl (has_number left place (i + 1) n (record { from = omega arith; below = omega arith }))
           | inr ge ↦ inr (has_number right place (i + 1 + event_count left) n (record { from = omega arith; below = omega arith }))
-          ]))
-      | inr ge ↦ inr (inr (omega arith))
+        ]))
+        | inr ge ↦ inr (inr (omega arith))
       ]
     ]
 has_number (par split left right) place i n e =
     elim (cases_eq n i) [
-      inl first ↦ inl first
-    | inr ne ↦ elim (cases_lt n (i + 1 + event_count left + event_count right)) [
-        inl inside ↦ inr (inl (elim (cases_lt n (i + 1 + event_count left)) [
-            inl lt ↦ inl (has_number left place (i + 1) n (record { from = omega arith; below = omega arith }))
+      | inl first ↦ inl first
+      | inr ne ↦ elim (cases_lt n (i + 1 + event_count left + event_count right)) [
+        | inl inside ↦ inr (inl (elim (cases_lt n (i + 1 + event_count left)) [
+          | inl lt ↦ inl (has_number left place (i + 1) n (record { from = omega arith; below = omega arith }))
           | inr ge ↦ inr (has_number right place (i + 1 + event_count left) n (record { from = omega arith; below = omega arith }))
-          ]))
-      | inr ge ↦ inr (inr (omega arith))
+        ]))
+        | inr ge ↦ inr (inr (omega arith))
       ]
     ]
 
@@ -126,13 +126,13 @@ frame_orders first last inside high x y A less e within a (inr (inr (inr (inr o)
 ordered_in_frame : (first last : Event) (inside : System) (high x y : ℕ) (A : Type 0) → last.number + 1 ≡ high → ((n : ℕ) → IsWithin (first.number + 1) last.number n → HasNumber inside n) → (A → Orders inside x y) → Framed first.number high x y A → Orders (frame first inside last) x y
 ordered_in_frame first last inside high x y A e has a (inl o) =
     elim (cases_lt y last.number) [
-      inl lt ↦ inl (o.first, inl (has y (record { from = omega arith; below = omega arith })))
-    | inr ge ↦ inl (o.first, inr (omega arith))
+      | inl lt ↦ inl (o.first, inl (has y (record { from = omega arith; below = omega arith })))
+      | inr ge ↦ inl (o.first, inr (omega arith))
     ]
 ordered_in_frame first last inside high x y A e has a (inr (inl c)) =
     elim (cases_eq x first.number) [
-      inl is ↦ inl (is, inr (omega arith))
-    | inr ne ↦ inr (inr (inl (has x (record { from = omega arith; below = omega arith }), omega arith)))
+      | inl is ↦ inl (is, inr (omega arith))
+      | inr ne ↦ inr (inr (inl (has x (record { from = omega arith; below = omega arith }), omega arith)))
     ]
 ordered_in_frame first last inside high x y A e has a (inr (inr r)) = inr (inr (inr (inl (a r))))
 
@@ -166,8 +166,8 @@ pair_within left right place i n (inr h) =
 pair_has : (left right : Term) (place : List ℕ) (i n : ℕ) → IsWithin i (i + event_count left + event_count right) n → HasNumber (system_from left place i) n ⊎ HasNumber (system_from right place (i + event_count left)) n
 pair_has left right place i n e =
     elim (cases_lt n (i + event_count left)) [
-      inl lt ↦ inl (has_number left place i n (record { from = omega arith; below = omega arith }))
-    | inr ge ↦ inr (has_number right place (i + event_count left) n (record { from = omega arith; below = omega arith }))
+      | inl lt ↦ inl (has_number left place i n (record { from = omega arith; below = omega arith }))
+      | inr ge ↦ inr (has_number right place (i + event_count left) n (record { from = omega arith; below = omega arith }))
     ]
 
 chain_orders : (left right : Term) (place : List ℕ) (i x y : ℕ) → (Orders (system_from left place i) x y → IsBefore left i x y) → (Orders (system_from right place (i + event_count left)) x y → IsBefore right (i + event_count left) x y) → Orders (before (system_from left place i) (system_from right place (i + event_count left))) x y → IsBefore (chain left right) i x y
@@ -191,10 +191,10 @@ orders_before (chain left right) place i x y h =
     chain_orders left right place i x y (orders_before left place i x y) (orders_before right place (i + event_count left) x y) h
 orders_before (seq split left right) place i x y h =
     frame_orders (event i splits place) (event (i + 1 + event_count left + event_count right) joins place) (before (system_from left place (i + 1)) (system_from right place (i + 1 + event_count left))) (i + (2 + (event_count left + event_count right))) x y (IsBefore (chain left right) (i + 1) x y) (omega arith) (omega arith) (pair_within left right place (i + 1))
-      (chain_orders left right place (i + 1) x y (orders_before left place (i + 1) x y) (orders_before right place (i + 1 + event_count left) x y)) h
+    (chain_orders left right place (i + 1) x y (orders_before left place (i + 1) x y) (orders_before right place (i + 1 + event_count left) x y)) h
 orders_before (par split left right) place i x y h =
     frame_orders (event i splits place) (event (i + 1 + event_count left + event_count right) joins place) (merge (system_from left place (i + 1)) (system_from right place (i + 1 + event_count left))) (i + (2 + (event_count left + event_count right))) x y (IsBefore left (i + 1) x y ⊎ IsBefore right (i + 1 + event_count left) x y) (omega arith) (omega arith) (pair_within left right place (i + 1))
-      (either_way (orders_before left place (i + 1) x y) (orders_before right place (i + 1 + event_count left) x y)) h
+    (either_way (orders_before left place (i + 1) x y) (orders_before right place (i + 1 + event_count left) x y)) h
 
 -- and all that the phrase orders
 pub before_orders : (phrase : Term) (place : List ℕ) (i x y : ℕ) → IsBefore phrase i x y → Orders (system_from phrase place i) x y
@@ -209,10 +209,10 @@ before_orders (chain left right) place i x y h =
     chain_ordered left right place i x y (before_orders left place i x y) (before_orders right place (i + event_count left) x y) h
 before_orders (seq split left right) place i x y h =
     ordered_in_frame (event i splits place) (event (i + 1 + event_count left + event_count right) joins place) (before (system_from left place (i + 1)) (system_from right place (i + 1 + event_count left))) (i + (2 + (event_count left + event_count right))) x y (IsBefore (chain left right) (i + 1) x y) (omega arith) (pair_has left right place (i + 1))
-      (chain_ordered left right place (i + 1) x y (before_orders left place (i + 1) x y) (before_orders right place (i + 1 + event_count left) x y)) h
+    (chain_ordered left right place (i + 1) x y (before_orders left place (i + 1) x y) (before_orders right place (i + 1 + event_count left) x y)) h
 before_orders (par split left right) place i x y h =
     ordered_in_frame (event i splits place) (event (i + 1 + event_count left + event_count right) joins place) (merge (system_from left place (i + 1)) (system_from right place (i + 1 + event_count left))) (i + (2 + (event_count left + event_count right))) x y (IsBefore left (i + 1) x y ⊎ IsBefore right (i + 1 + event_count left) x y) (omega arith) (pair_has left right place (i + 1))
-      (either_way (before_orders left place (i + 1) x y) (before_orders right place (i + 1 + event_count left) x y)) h
+    (either_way (before_orders left place (i + 1) x y) (before_orders right place (i + 1 + event_count left) x y)) h
 
 -- the same of a system that was made
 pub made_leaves : (phrase : Term) (place : List ℕ) (r : Result EventSystem NoMemory) → IfOk r (λ made. system made ≡ system_from phrase place 0) → IfOk r (λ made. leaves (system made) ≡ events_of phrase place 0)

@@ -1,5 +1,4 @@
 -- The events of the program as those of the event list.
-use Rattle.std.specs.Prelude.{ℕ, List}
 use Rattle.phrase_tree.specs.Events.{Kind, copies, measures, measures_at, seals, hashes, requests, replies, splits, joins, event}
 use Rattle.phrase_tree.specs.Events as listed
 use Rattle.event_system.specs.declared.event.EventKind.{EventKind}

@@ -1,8 +1,8 @@
 -- What is wrong with a list of numbers that should be a trace.
-use Rattle.std.specs.Prelude.{◌≡◌, ◌+◌, ◌≤◌, ◌<◌, ◌↔◌, ℕ, List, length, take, slice_index, Contains, Option, Some, None}
+use Rattle.std.specs.Prelude.{◌≡◌, ◌≤◌, ◌<◌, ℕ, List, length, take, slice_index, Contains}
 use Rattle.phrase_tree.specs.Term.{Term}
-use Rattle.event_system.specs.Order.{IsEvent, IsBefore, IsDirectlyBefore}
-use Rattle.event_system.specs.Trace.{IsTraceSoFar, IsTrace}
+use Rattle.event_system.specs.Order.{IsEvent, IsDirectlyBefore}
+use Rattle.event_system.specs.Trace.{IsTraceSoFar}
 use Rattle.event_system.specs.declared.fault.TraceFault.{TraceFault}
 use Rattle.event_system.specs.declared.fault.TraceFault.TheVariants.{Strange, Repeated, Early, Missing}
 

@@ -32,14 +32,14 @@ needs_behind entry (chain left right) i y =
 needs_behind entry (seq split left right) i y =
     if nat_eq y i then only entry
     else if nat_lt y (i + 1 + (event_count left + event_count right)) then
-      (if nat_lt y (i + 1 + event_count left) then needs_behind (Some i) left (i + 1) y
-      else needs_behind (Some (i + 1 + event_count left - 1)) right (i + 1 + event_count left) y)
+    (if nat_lt y (i + 1 + event_count left) then needs_behind (Some i) left (i + 1) y
+    else needs_behind (Some (i + 1 + event_count left - 1)) right (i + 1 + event_count left) y)
     else only (Some (i + (event_count left + event_count right)))
 needs_behind entry (par split left right) i y =
     if nat_eq y i then only entry
     else if nat_lt y (i + 1 + (event_count left + event_count right)) then
-      (if nat_lt y (i + 1 + event_count left) then needs_behind (Some i) left (i + 1) y
-      else needs_behind (Some i) right (i + 1 + event_count left) y)
+    (if nat_lt y (i + 1 + event_count left) then needs_behind (Some i) left (i + 1) y
+    else needs_behind (Some i) right (i + 1 + event_count left) y)
     else record { first = Some (i + event_count left); second = Some (i + (event_count left + event_count right)) }
 
 -- the direct predecessors of y in a phrase, rising; none where y is no event of it

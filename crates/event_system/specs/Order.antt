@@ -42,19 +42,19 @@ IsBefore (usm asp) i x y = ⊥
 IsBefore (kim target asp) i x y = ⊥
 IsBefore (at asked body) i x y =
     Opens i (i + (2 + event_count body)) x y
-      ⊎ (Closes i (i + (2 + event_count body)) x y ⊎ IsBefore body (i + 1) x y)
+    ⊎ (Closes i (i + (2 + event_count body)) x y ⊎ IsBefore body (i + 1) x y)
 IsBefore (chain left right) i x y =
     Crosses i (i + event_count left) (i + event_count left + event_count right) x y
-      ⊎ (IsBefore left i x y ⊎ IsBefore right (i + event_count left) x y)
+    ⊎ (IsBefore left i x y ⊎ IsBefore right (i + event_count left) x y)
 IsBefore (seq split left right) i x y =
     Opens i (i + (2 + (event_count left + event_count right))) x y
-      ⊎ (Closes i (i + (2 + (event_count left + event_count right))) x y
-        ⊎ (Crosses (i + 1) (i + 1 + event_count left) (i + 1 + event_count left + event_count right) x y
-          ⊎ (IsBefore left (i + 1) x y ⊎ IsBefore right (i + 1 + event_count left) x y)))
+    ⊎ (Closes i (i + (2 + (event_count left + event_count right))) x y
+    ⊎ (Crosses (i + 1) (i + 1 + event_count left) (i + 1 + event_count left + event_count right) x y
+    ⊎ (IsBefore left (i + 1) x y ⊎ IsBefore right (i + 1 + event_count left) x y)))
 IsBefore (par split left right) i x y =
     Opens i (i + (2 + (event_count left + event_count right))) x y
-      ⊎ (Closes i (i + (2 + (event_count left + event_count right))) x y
-        ⊎ (IsBefore left (i + 1) x y ⊎ IsBefore right (i + 1 + event_count left) x y))
+    ⊎ (Closes i (i + (2 + (event_count left + event_count right))) x y
+    ⊎ (IsBefore left (i + 1) x y ⊎ IsBefore right (i + 1 + event_count left) x y))
 
 -- x is a direct predecessor of y: it is before y, and nothing is between
 pub record IsDirectlyBefore (phrase : Term) (i x y : ℕ) : Type 0 where

@@ -2,7 +2,6 @@
 use Rattle.std.specs.Prelude.{◌≡◌, ◌+◌, ◌≤◌, ◌<◌, ℕ, Option}
 use Rattle.phrase_tree.specs.Term.{Term}
 use Rattle.phrase_tree.specs.Numbering.{event_count}
-use Rattle.event_system.specs.declared.direct.Needs.{Needs}
 use Rattle.event_system.specs.declared.predecessors.Sought.{Sought}
 use Rattle.event_system.specs.declared.predecessors.Sought.TheVariants.{Found, Past}
 use Rattle.event_system.specs.Needs.{needs_behind}

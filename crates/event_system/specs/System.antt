@@ -46,19 +46,19 @@ system_from (usm asp) place i = leaf (event i (measures asp) place)
 system_from (kim target asp) place i = leaf (event i (measures_at target asp) place)
 system_from (at asked body) place i =
     before
-      (leaf (event i (requests asked) place))
-      (before (system_from body asked (i + 1)) (leaf (event (i + 1 + event_count body) (replies asked) place)))
+    (leaf (event i (requests asked) place))
+    (before (system_from body asked (i + 1)) (leaf (event (i + 1 + event_count body) (replies asked) place)))
 system_from (chain left right) place i =
     before (system_from left place i) (system_from right place (i + event_count left))
 system_from (seq split left right) place i =
     before
-      (leaf (event i splits place))
-      (before
-        (before (system_from left place (i + 1)) (system_from right place (i + 1 + event_count left)))
-        (leaf (event (i + 1 + event_count left + event_count right) joins place)))
+    (leaf (event i splits place))
+    (before
+    (before (system_from left place (i + 1)) (system_from right place (i + 1 + event_count left)))
+    (leaf (event (i + 1 + event_count left + event_count right) joins place)))
 system_from (par split left right) place i =
     before
-      (leaf (event i splits place))
-      (before
-        (merge (system_from left place (i + 1)) (system_from right place (i + 1 + event_count left)))
-        (leaf (event (i + 1 + event_count left + event_count right) joins place)))
+    (leaf (event i splits place))
+    (before
+    (merge (system_from left place (i + 1)) (system_from right place (i + 1 + event_count left)))
+    (leaf (event (i + 1 + event_count left + event_count right) joins place)))

@@ -1,5 +1,5 @@
 -- Traces of a phrase: lists of the numbers of its events in the order in which they happened.
-use Rattle.std.specs.Prelude.{◌+◌, ◌≤◌, ◌<◌, ◌≡◌, ℕ, List, length, take, slice_index, Contains}
+use Rattle.std.specs.Prelude.{◌<◌, ℕ, List, length, take, slice_index, Contains}
 use Rattle.phrase_tree.specs.Term.{Term}
 use Rattle.event_system.specs.Order.{IsEvent, IsBefore}
 

@@ -13,15 +13,13 @@ pub fn order_law()
     ensures transitive { (phrase : Term) (first x y z : ℕ) →
         IsBefore phrase first x y → IsBefore phrase first y z → IsBefore phrase first x z }
     ensures rising { (phrase : Term) (first x y : ℕ) → IsBefore phrase first x y → x < y }
-{
-}
+{}
 
 /// The law of rising numbers: the numbers of a phrase in rising order are a trace of it.
 pub fn rising_law()
     ensures { (phrase : Term) (first : ℕ) →
         IsTrace phrase first (range_with_len first (event_count phrase)) }
-{
-}
+{}
 
 /// The law of event systems: the leaves from left to right are the event list, and two events are
 /// ordered by a `Before` exactly where they are by the order.
@@ -30,5 +28,4 @@ pub fn system_law()
         leaves (system_from phrase place first) ≡ events_of phrase place first }
     ensures order { (phrase : Term) (place : List ℕ) (first x y : ℕ) →
         Orders (system_from phrase place first) x y ↔ IsBefore phrase first x y }
-{
-}
+{}

@@ -11,10 +11,9 @@ mod list;
 mod order;
 mod predecessors;
 mod system;
-mod trace;
-
 #[cfg(test)]
 mod tests;
+mod trace;
 
 pub use direct::Needs;
 pub use event::{Event, EventKind};

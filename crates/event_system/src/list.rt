@@ -61,8 +61,8 @@ fn push_event(
     requires { number + 1 < 2 ^ 32 }
     ensures list { OnOk result
         (map event_of list.new
-          ≡ map event_of list.old
-            ++ event_of (record { number = number; kind = kind; place = place }) ∷ []) }
+        ≡ map event_of list.old
+        ++ event_of (record { number = number; kind = kind; place = place }) ∷ []) }
     ensures next { IfOk result (λ next. next ≡ number + 1) }
 {
     let item = Event {

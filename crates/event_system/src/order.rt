@@ -41,7 +41,7 @@ fn framed(low: u32, inside: Walked, first: u32, second: u32) -> Walked
     requires { inside.next + 1 < 2 ^ 32 }
     ensures before { IsTrue result.before
         ↔ (Opens low (inside.next + 1) first second
-          ⊎ (Closes low (inside.next + 1) first second ⊎ IsTrue inside.before)) }
+        ⊎ (Closes low (inside.next + 1) first second ⊎ IsTrue inside.before)) }
     ensures next { result.next ≡ inside.next + 1 }
 {
     let high = inside.next + 1;

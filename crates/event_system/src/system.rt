@@ -53,19 +53,13 @@ fn single(number: u32, kind: EventKind, place: Place) -> Part
 fn before(alloc: Global, left: EventSystem, right: EventSystem) -> Result<EventSystem, NoMemory>
     ensures { IfOk result (λ whole. system whole ≡ before_of (system left) (system right)) }
 {
-    Ok(EventSystem::Before(
-        Box::new(alloc, left)?,
-        Box::new(alloc, right)?,
-    ))
+    Ok(EventSystem::Before(Box::new(alloc, left)?, Box::new(alloc, right)?))
 }
 
 fn merge(alloc: Global, left: EventSystem, right: EventSystem) -> Result<EventSystem, NoMemory>
     ensures { IfOk result (λ whole. system whole ≡ merge_of (system left) (system right)) }
 {
-    Ok(EventSystem::Merge(
-        Box::new(alloc, left)?,
-        Box::new(alloc, right)?,
-    ))
+    Ok(EventSystem::Merge(Box::new(alloc, left)?, Box::new(alloc, right)?))
 }
 
 // A first event, what is inside, and a last event.
@@ -79,9 +73,9 @@ fn framed(
     requires { inside.next + 1 < 2 ^ 32 }
     ensures system { IfOk result
         (λ whole. system whole.system
-          ≡ before_of (system first)
-            (before_of (system inside.system)
-              (leaf (event_of (record { number = inside.next; kind = kind; place = place }))))) }
+        ≡ before_of (system first)
+        (before_of (system inside.system)
+        (leaf (event_of (record { number = inside.next; kind = kind; place = place }))))) }
     ensures next { IfOk result (λ whole. whole.next ≡ inside.next + 1) }
 {
     let last = leaf(inside.next, kind, place);

@@ -54,12 +54,7 @@ fn fork(alloc: Global, a: Name, b: Name) -> Result<Phrase, AllocError>
 }
 
 // @ks [KIM us ks -> SIG] +~+ @us [USM us -> USM ks -> SIG], or the same with +<+
-fn two_places(
-    alloc: Global,
-    ks: Place,
-    us: Place,
-    parallel: bool,
-) -> Result<Phrase, AllocError>
+fn two_places(alloc: Global, ks: Place, us: Place, parallel: bool) -> Result<Phrase, AllocError>
     ensures { IfOk result (λ phrase. IsSized (term phrase)) }
 {
     let first = Box::new(alloc, Phrase::Kim(us, asp(ks)))?;
@@ -180,7 +175,11 @@ fn expect_order(rt: &impl Abort, phrase: &Phrase, rows: &[(&[u8; 12], Needs); 12
         assert_eq!(rt; needs(phrase, event), *needed, "{event}");
         for (second, ordered) in row.iter().enumerate() {
             let ordered = *ordered == b'1';
-            assert_eq!(rt; before(phrase, event, second as u32), ordered, "{event} and {second}");
+            assert_eq!(rt;
+                before(phrase, event, second as u32),
+                ordered,
+                "{event} and {second}"
+            );
         }
     }
 }
