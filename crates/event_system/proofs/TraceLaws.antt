@@ -1,10 +1,11 @@
 -- Laws of traces: a trace so far grows by what may follow, it is no longer than the phrase has
 -- events, and the first fault of a list is one only.
-use Rattle.std.proofs.Common.{◌≡◌, ℕ, ◌+◌, ◌≤◌, ◌<◌, inl, inr, sym, ◌∙◌, subst, true, false, eqb, suc, ◌-◌, ◌∷◌, List, [], length, get_or, take, None, arith, length-take-le}
+use Rattle.std.proofs.Common.{◌≡◌, ℕ, ◌+◌, ◌≤◌, ◌<◌, inl, inr, sym, ◌∙◌, subst, true, false, eqb, suc, ◌-◌, ◌∷◌, ◌++◌, List, [], length, get_or, take, None, arith, length-take-le}
 use Rattle.std.specs.Prelude.{Contains, slice_index}
 use Rattle.std.specs.List.{list_any, range_with_len}
 use Rattle.std.proofs.lemmas.Bool.{cases_lt, or_cases, eqb-true, ne_eqb}
-use Rattle.std.proofs.lemmas.List.{get_or-take, take-take, get_or_default}
+use Rattle.std.proofs.lemmas.List.{get_or-take, get_or_append_left, get_or_default, length-append, take-append-le, take-take}
+use Rattle.std.proofs.Math.Seq.{get_or-append_seam, take-append_seam}
 use Rattle.std.proofs.lemmas.Map.Keys.{IsDistinct-from_apart}
 use Rattle.std.proofs.lemmas.Map.Steps.{length-le_from_distinct_below}
 use Rattle.std.proofs.lemmas.List.FromFn.{length-range_with_len, get_or-range_with_len}
@@ -131,3 +132,23 @@ rising_is_trace phrase i =
       };
       whole = λ m event. (m - i, omega (arith, event.from, event.below, length-range_with_len i (event_count phrase)), get_or-range_with_len i (event_count phrase) (m - i) m (omega (arith, event.from, event.below)) ∙ add_back i m event.from);
     }
+
+-- a trace so far begins with nothing, and grows at its end by what may follow it
+pub nothing_so_far : (phrase : Term) (i : ℕ) → IsTraceSoFar phrase i []
+nothing_so_far phrase i = record { each = λ k lt. absurd (omega arith) }
+
+pub more_so_far : (phrase : Term) (i : ℕ) (trace : List ℕ) (n : ℕ) → IsTraceSoFar phrase i trace → MayFollow phrase i trace n → IsTraceSoFar phrase i (trace ++ n ∷ [])
+more_so_far phrase i trace n s m = record {
+  each = λ k lt. elim (cases_lt k (length trace)) [
+      inl less ↦
+        let ahead : take k trace ≡ take k (trace ++ n ∷ []) = sym (take-append-le k trace (n ∷ []) (omega arith)) in
+        let there : slice_index trace k ≡ slice_index (trace ++ n ∷ []) k = sym (get_or_append_left trace (n ∷ []) 0 k less) in
+        subst (λ y. MayFollow phrase i (take k (trace ++ n ∷ [])) y) there (subst (λ xs. MayFollow phrase i xs (slice_index trace k)) ahead (s.each k less))
+    | inr ge ↦
+        let e : length trace ≡ k = omega (arith, lt, length-append trace (n ∷ [])) in
+        let ahead : trace ≡ take (length trace) (trace ++ n ∷ []) = sym (take-append_seam trace (n ∷ [])) in
+        let there : n ≡ slice_index (trace ++ n ∷ []) (length trace) = sym (get_or-append_seam trace n [] 0) in
+        subst (λ j. MayFollow phrase i (take j (trace ++ n ∷ [])) (slice_index (trace ++ n ∷ []) j)) e
+          (subst (λ y. MayFollow phrase i (take (length trace) (trace ++ n ∷ [])) y) there (subst (λ xs. MayFollow phrase i xs n) ahead m))
+    ];
+}
