@@ -1,0 +1,21 @@
+ghost use Rattle.std.specs.Prelude.{◌≡◌, None};
+ghost use Rattle.event_system.specs.Needs.{only};
+
+/// The direct predecessors of an event: none, one, or two of which the first has the lesser number.
+#[derive(Clone, Copy, Debug, PartialEq, Eq)]
+pub struct Needs {
+    pub first: Option<u32>,
+    pub second: Option<u32>,
+}
+
+impl Needs {
+    /// At most one direct predecessor.
+    pub(crate) fn only(first: Option<u32>) -> Needs
+        ensures { result ≡ only first }
+    {
+        Needs {
+            first,
+            second: None,
+        }
+    }
+}
