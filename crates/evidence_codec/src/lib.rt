@@ -7,5 +7,7 @@
 #![tactic(auto)]
 
 mod fault;
+mod fields;
+mod head;
 
 pub use fault::{BadKind, DecodeError, Fault};
