@@ -1,1 +1,5 @@
 mod WorkedRows
+pub mod OpeningLemmas
+pub mod FieldLemmas
+pub mod HeadLemmas
+pub mod ValueLemmas

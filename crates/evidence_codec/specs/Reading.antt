@@ -128,11 +128,15 @@ value_at edge (suc deeper) bytes = do
   head ← head_at edge bytes
   parts_at (value_at edge deeper) head.0 head.1
 
--- the bytes that every bundle begins with, from the offset `at` on; the first that differs is a fault
+-- a byte that never changes, at this offset
+abbrev pub behind_byte : ℕ → ℕ → List ℕ → Result (List ℕ) Fault
+behind_byte wanted at [] = Err (fault at Short)
+behind_byte wanted at (byte ∷ rest) = if nat_eq byte wanted then Ok rest else Err (fault at Tag)
+
+-- bytes that never change, from this offset on; the first that differs is a fault
 unfoldable pub behind_head : List ℕ → ℕ → List ℕ → Result (List ℕ) Fault
 behind_head [] at bytes = Ok bytes
-behind_head (wanted ∷ more) at [] = Err (fault at Short)
-behind_head (wanted ∷ more) at (byte ∷ bytes) = if nat_eq byte wanted then behind_head more (suc at) bytes else Err (fault at Tag)
+behind_head (wanted ∷ more) at bytes = behind_byte wanted at bytes >>= behind_head more (suc at)
 
 -- where the value of a bundle must end: at its length behind offset 9, or where the bytes end before that
 unfoldable pub edge_of : ℕ → List ℕ → Fault
@@ -155,7 +159,7 @@ value_of_length len bytes =
 unfoldable pub read_bundle : List ℕ → Result Evidence Fault
 read_bundle bytes = do
   behind ← behind_head bundle_head 0 bytes
-  len ← number_at (fault (length bytes) Short) w32 behind
+  len ← number_at (fault (5 + length behind) Short) w32 behind
   value_of_length len.0 len.1
 
 -- the first fault of bytes that are no bundle

@@ -6,8 +6,10 @@
 //! of a value are those of the crate `evidence_types`. The format is this project's own.
 #![tactic(auto)]
 
+mod decoding;
 mod fault;
 mod fields;
 mod head;
+mod nodes;
 
 pub use fault::{BadKind, DecodeError, Fault};
