@@ -100,7 +100,7 @@ number_takes edge w limit wide bytes x fits e =
     let text_fits : IsBytes b.0.0 = prefix_fits bytes b.0.0 b.0.1 t.0.parts fits in
     let same : to_be_bytes w (from_be_bytes w b.0.0) ≡ b.0.0 = wide.back b.0.0 t.1 text_fits in
     subst (λ (p : ℕ × List ℕ). Front bytes (to_be_bytes w p.0) p.1 × (p.0 < limit)) (ok_is (from_be_bytes w b.0.0, b.0.1) x b.2)
-      (subst (λ (text : List ℕ). Front bytes text b.0.1) (sym same) t.0, wide.below b.0.0 text_fits)
+    (subst (λ (text : List ℕ). Front bytes text b.0.1) (sym same) t.0, wide.below b.0.0 text_fits)
 
 pub number_again : (edge : Fault) (w : Width) (limit : ℕ) (wide : IsWide w limit) (n : ℕ) (rest : List ℕ) → n < limit → number_at edge w (to_be_bytes w n ++ rest) ≡ Ok (n, rest)
 number_again edge w limit wide n rest lt =

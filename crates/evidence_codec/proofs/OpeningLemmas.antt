@@ -68,9 +68,9 @@ same-closed old value rest node now all kept e =
     record {
       fewer = omega (arith, len, kept.fewer);
       same = λ edge depth bytes le.
-        let deeper : ℕ = depth - (length rest + 1) in
-        let k : depth ≡ length rest + suc deeper = omega (arith, len, kept.fewer) in
-        kept.same edge depth bytes le ∙ around-push edge rest node (Ok (now, bytes)) depth deeper k ∙ ap (λ (part : Found Evidence). around edge depth rest part) (in_node-closed edge deeper node now all bytes e);
+          let deeper : ℕ = depth - (length rest + 1) in
+          let k : depth ≡ length rest + suc deeper = omega (arith, len, kept.fewer) in
+          kept.same edge depth bytes le ∙ around-push edge rest node (Ok (now, bytes)) depth deeper k ∙ ap (λ (part : Found Evidence). around edge depth rest part) (in_node-closed edge deeper node now all bytes e);
     }
 
 pub same-waiting : (old : List Open) (value : Evidence) (rest : List Open) (node next : Open) (now : Evidence) → Same old value (rest ++ node ∷ []) now → filled node now ≡ waiting next → Closes old value (rest ++ next ∷ []) None
@@ -78,9 +78,10 @@ same-waiting old value rest node next now kept e = λ edge depth bytes le.
     let len = length-push rest node in
     let len' = length-push rest next in
     let deeper : ℕ = depth - length (rest ++ next ∷ []) in
-    let k : depth ≡ length rest + suc deeper = omega (arith, len, len', kept.fewer) in
-    (omega (arith, len, len', kept.fewer),
-     kept.same edge depth bytes le ∙ around-push edge rest node (Ok (now, bytes)) depth deeper k ∙ ap (λ (part : Found Evidence). around edge depth rest part) (in_node-waiting edge deeper node next now bytes e) ∙ sym (around-push edge rest next (value_at edge deeper bytes) depth deeper k))
+    let k : depth ≡ length rest + suc deeper = omega (arith, len, len', kept.fewer) in (
+      omega (arith, len, len', kept.fewer),
+      kept.same edge depth bytes le ∙ around-push edge rest node (Ok (now, bytes)) depth deeper k ∙ ap (λ (part : Found Evidence). around edge depth rest part) (in_node-waiting edge deeper node next now bytes e) ∙ sym (around-push edge rest next (value_at edge deeper bytes) depth deeper k),
+    )
 
 pub same-all : (old : List Open) (value now : Evidence) → Same old value [] now → Closes old value [] (Some now)
 unfolding around
@@ -96,10 +97,11 @@ takes-open : (old : List Open) (head : Head) (node : Open) → ((edge : Fault) (
     → Takes old head (old ++ node ∷ []) None
 takes-open old head node step = λ edge deeper bytes.
     let len = length-push old node in
-    let k : (length old + suc deeper) - length (old ++ node ∷ []) ≡ deeper = omega (arith, len) in
-    (omega (arith, len),
-     ap (λ (part : Found Evidence). around edge (length old + suc deeper) old part) (step edge deeper bytes) ∙ sym (around-push edge old node (value_at edge deeper bytes) (length old + suc deeper) deeper refl)
-     ∙ ap (λ (d : ℕ). around edge (length old + suc deeper) (old ++ node ∷ []) (value_at edge d bytes)) (sym k))
+    let k : (length old + suc deeper) - length (old ++ node ∷ []) ≡ deeper = omega (arith, len) in (
+      omega (arith, len),
+      ap (λ (part : Found Evidence). around edge (length old + suc deeper) old part) (step edge deeper bytes) ∙ sym (around-push edge old node (value_at edge deeper bytes) (length old + suc deeper) deeper refl)
+          ∙ ap (λ (d : ℕ). around edge (length old + suc deeper) (old ++ node ∷ []) (value_at edge d bytes)) (sym k),
+    )
 
 pub takes-under : (old : List Open) (node : Over) → Takes old (over node) (old ++ over_open node ∷ []) None
 unfolding parts_at in_node

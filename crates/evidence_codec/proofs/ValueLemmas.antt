@@ -130,7 +130,7 @@ unfolding parts_at
 pair_again edge parallel left right depth rest l r =
     let parts : (encoding left ++ encoding right) ++ rest ≡ encoding left ++ (encoding right ++ rest) = append_assoc (encoding left) (encoding right) rest in
     let text : encoding (paired parallel left right) ++ rest ≡ spelled (pair parallel) ++ (encoding left ++ (encoding right ++ rest)) =
-      ap (λ (t : List ℕ). t ++ rest) (pair-encoding parallel left right) ∙ append_assoc (spelled (pair parallel)) (encoding left ++ encoding right) rest ∙ ap (λ (t : List ℕ). spelled (pair parallel) ++ t) parts in
+    ap (λ (t : List ℕ). t ++ rest) (pair-encoding parallel left right) ∙ append_assoc (spelled (pair parallel)) (encoding left ++ encoding right) rest ∙ ap (λ (t : List ℕ). spelled (pair parallel) ++ t) parts in
     ap (value_at edge (suc depth)) text ∙ value-head edge depth (spelled (pair parallel) ++ (encoding left ++ (encoding right ++ rest))) (pair parallel) (encoding left ++ (encoding right ++ rest)) (head_again edge (pair parallel) (encoding left ++ (encoding right ++ rest)) tt)
     ∙ ap (λ (found : Found Evidence). found >>= λ x. value_at edge depth x.1 >>= λ y. Ok (paired parallel x.0 y.0, y.1)) l
     ∙ ap (λ (found : Found Evidence). found >>= λ y. Ok (paired parallel left y.0, y.1)) r

@@ -1,4 +1,4 @@
-ghost use Rattle.std.specs.Prelude.{◌≡◌, ◌≤◌, ◌+◌, ◌-◌, length, take, IfOk};
+ghost use Rattle.std.specs.Prelude.{◌≡◌, ◌≤◌, ◌+◌, ◌-◌, length, take, IfOk, Ok};
 ghost use Rattle.std.specs.Int.{w32};
 ghost use Rattle.evidence_types.specs.Evidence.{Evidence, evidence};
 ghost use Rattle.evidence_types.specs.Bytes.{bundle_head};
@@ -7,6 +7,7 @@ ghost use Rattle.evidence_codec.specs.Reading.{fault, number_at, value_at, behin
 ghost use Rattle.evidence_codec.specs.Opening.{Takes};
 ghost use Rattle.evidence_codec.specs.Decoding.{Gives, Decodes, head_within, head_of};
 
+use crate::encoding::HEAD;
 use crate::fault::{BadKind, DecodeError, Fault};
 use crate::fields::{offset, u32_at};
 use crate::head::{Head, head_at};
@@ -20,8 +21,14 @@ const NESTING: usize = 1025;
 /// The greatest length of a value, in bytes.
 const VALUE_BYTES: u32 = 262_144;
 
-/// The first bytes of every bundle: "CPLB", and the version 1.
-const HEAD: [u8; 5] = [67, 80, 76, 66, 1];
+fn bad(first: Fault) -> DecodeError
+    ensures { result ≡ DecodeError.Bad first.at first.kind }
+{
+    DecodeError::Bad {
+        at: first.at,
+        kind: first.kind,
+    }
+}
 
 #[tactic(auto, unfolding(crate::specs::Decoding::head_within))]
 fn head_within(edge: Fault, depth: usize, bytes: &[u8]) -> Result<(Head, &[u8]), Fault>
@@ -44,14 +51,15 @@ fn head_within(edge: Fault, depth: usize, bytes: &[u8]) -> Result<(Head, &[u8]),
 /// The value at the front of the bytes, and the bytes behind it.
 fn value_at(alloc: Global, edge: Fault, bytes: &[u8]) -> Result<(Value, &[u8]), DecodeError>
     requires { length bytes.now ≤ edge.at }
-    ensures { Decodes (λ found. (evidence found.0, found.1.now)) result (value_at edge 1025 bytes.now) }
+    ensures read { Decodes (λ found. (evidence found.0, found.1.now)) result (value_at edge 1025 bytes.now) }
+    ensures within { IfOk result (λ found. length found.1.now ≤ edge.at) }
 {
     let mut nodes: Vec<Open> = Vec::new(alloc);
     let mut rest = bytes;
     'nodes: loop {
         let (head, behind) = match head_within(edge, nodes.len(), rest) {
             Ok(found) => found,
-            Err(Fault { at, kind }) => return Err(DecodeError::Bad { at, kind }),
+            Err(first) => return Err(bad(first)),
         };
         rest = behind;
         match take(alloc, &mut nodes, head) {
@@ -129,4 +137,79 @@ fn region(len: u32, bytes: &[u8]) -> (Fault, &[u8])
         kind: BadKind::Length,
     };
     (edge, &bytes[..len as usize])
+}
+
+#[tactic(auto, unfolding(crate::specs::Reading::ended))]
+fn ended(len: u32, bytes: &[u8], edge: Fault, value: Value, rest: &[u8]) -> Result<Value, Fault>
+    requires len { len ≤ 262144 }
+    requires within { length rest.now ≤ edge.at }
+    ensures { Gives evidence result (ended len bytes.now edge (evidence value, rest.now)) }
+{
+    let at = offset(edge, rest);
+    if at < 9 + len {
+        return Err(Fault {
+            at,
+            kind: BadKind::Length,
+        });
+    }
+    if bytes.len() > len as usize {
+        return Err(Fault {
+            at: 9 + len,
+            kind: BadKind::Rest,
+        });
+    }
+    Ok(value)
+}
+
+#[tactic(auto, unfolding(crate::specs::Reading::value_of_length))]
+fn value_of_length(alloc: Global, len: u32, bytes: &[u8]) -> Result<Value, DecodeError>
+    ensures { Decodes evidence result (value_of_length len bytes.now) }
+{
+    if len > VALUE_BYTES {
+        return Err(DecodeError::Bad {
+            at: 5,
+            kind: BadKind::Length,
+        });
+    }
+    let (edge, there) = region(len, bytes);
+    let (value, rest) = match value_at(alloc, edge, there) {
+        Ok(found) => found,
+        Err(error) => return Err(error),
+    };
+    match ended(len, bytes, edge, value, rest) {
+        Ok(value) => Ok(value),
+        Err(first) => Err(bad(first)),
+    }
+}
+
+#[tactic(auto, unfolding(crate::specs::Reading::read_bundle))]
+fn read_bundle(alloc: Global, bytes: &[u8]) -> Result<Value, DecodeError>
+    ensures { Decodes evidence result (read_bundle bytes.now) }
+{
+    let rest = match behind_head(bytes) {
+        Ok(rest) => rest,
+        Err(first) => return Err(bad(first)),
+    };
+    let (len, rest) = match length_at(rest) {
+        Ok(found) => found,
+        Err(first) => return Err(bad(first)),
+    };
+    value_of_length(alloc, len, rest)
+}
+
+/// The value whose bundle these bytes are. Where they are none, the first fault from the left, with
+/// its offset; or want of memory.
+///
+/// The bytes are read once from the left, in time linear in the value that they claim to hold. The
+/// nodes that are open, at most 1,025, are kept in a list of their own, so hostile bytes cost no
+/// stack. The format is this project's own.
+pub fn decode(alloc: Global, bytes: &[u8]) -> Result<Value, DecodeError>
+    // What is read is spelled so.
+    ensures value { IfOk result (λ value. IsBundleOf bytes.now (evidence value)) }
+    // What is spelled so is read, unless memory runs out.
+    ensures only { (value : Evidence) → IsBundleOf bytes.now value → Decodes evidence result (Ok value) }
+    // Which fault it is.
+    ensures first { Decodes evidence result (read_bundle bytes.now) }
+{
+    read_bundle(alloc, bytes)
 }

@@ -7,9 +7,14 @@
 #![tactic(auto)]
 
 mod decoding;
+mod encoding;
 mod fault;
 mod fields;
 mod head;
+mod laws;
 mod nodes;
 
+pub use decoding::decode;
+pub use encoding::encode;
 pub use fault::{BadKind, DecodeError, Fault};
+pub use laws::{fault_or_bundle, one_spelling, one_value};
