@@ -1,20 +1,20 @@
 -- Reading gives a value exactly of the bytes that are its bundle.
-use Rattle.std.proofs.Common.{◌≡◌, ℕ, zero, suc, ◌+◌, ◌-◌, ◌^◌, ◌<◌, ◌≤◌, ◌↔◌, Bool, true, false, cond, ltb, eqb, List, [], ◌∷◌, ◌++◌, length, take, drop, Option, Some, None, Result, Ok, Err, refl, sym, ap, subst, ◌∙◌, arith, inl, inr, length-append}
+use Rattle.std.proofs.Common.{◌≡◌, ℕ, suc, ◌+◌, ◌-◌, ◌^◌, ◌<◌, ◌≤◌, ◌↔◌, Bool, true, false, cond, ltb, eqb, List, [], ◌∷◌, ◌++◌, length, take, drop, None, Result, Ok, Err, refl, sym, ap, subst, ◌∙◌, arith, inl, inr}
 use Rattle.std.specs.Int.{w32}
 use Rattle.std.proofs.lemmas.Bool.{cases_lt, lt-ltb, le-ltb, ltb-false, eqb-true, eq-eqb}
 use Rattle.std.proofs.lemmas.List.{take_all, append-nil, nil_from_length}
 use Rattle.std.specs.Prelude.{IfOk}
 use Rattle.evidence_types.specs.declared.value.Value.{Value}
 use Rattle.evidence_types.specs.Evidence.{Evidence, evidence}
-use Rattle.evidence_types.specs.Bytes.{be32, encoding, nesting, FitsBundle, bundle_head, bundle}
+use Rattle.evidence_types.specs.Bytes.{be32, encoding, FitsBundle, bundle_head, bundle}
 use Rattle.evidence_codec.specs.declared.fault.BadKind.TheVariants.{Short, Tag, Length, Rest}
 use Rattle.evidence_codec.specs.declared.fault.Fault.{Fault}
 use Rattle.evidence_codec.specs.declared.fault.DecodeError.{DecodeError}
 use Rattle.evidence_codec.specs.Decoding.{Decodes}
 use Rattle.evidence_codec.specs.WellFormed.{IsWellFormed, IsBundleOf, IsBundle}
-use Rattle.evidence_codec.specs.Reading.{◌>>=◌, Found, fault, offset, number_at, value_at, behind_byte, behind_head, edge_of, ended, value_of_length, read_bundle, fault_of, first_fault}
-use Rattle.evidence_codec.proofs.FieldLemmas.{IsBytes, IsBytes-rest, IsBytes-take, bind_ok, guard_ok, done, ok_is, wide32, number_takes, number_again}
-use Rattle.evidence_codec.proofs.ValueLemmas.{ValueRead, value_takes, value_again, one_spelling}
+use Rattle.evidence_codec.specs.Reading.{◌>>=◌, fault, offset, number_at, value_at, behind_byte, behind_head, edge_of, ended, value_of_length, read_bundle, fault_of, first_fault}
+use Rattle.evidence_codec.proofs.FieldLemmas.{IsBytes, IsBytes-take, bind_ok, guard_ok, done, ok_is, wide32, number_takes, number_again}
+use Rattle.evidence_codec.proofs.ValueLemmas.{value_takes, value_again, one_spelling}
 
 -- ---- the bytes that never change
 

@@ -1,11 +1,11 @@
 -- The head of a node that is read is the head that was written, and a head that was written is read again.
-use Rattle.std.proofs.Common.{◌≡◌, ℕ, zero, suc, ◌+◌, ◌^◌, ◌<◌, ◌≤◌, Bool, true, false, List, [], ◌∷◌, ◌++◌, length, Result, Ok, Err, refl, sym, ap, subst, ◌∙◌, append_assoc, arith}
+use Rattle.std.proofs.Common.{◌≡◌, ℕ, zero, suc, ◌^◌, ◌<◌, true, false, List, [], ◌∷◌, ◌++◌, length, Ok, refl, sym, ap, subst}
 use Rattle.std.specs.Int.{w32}
 use Rattle.evidence_types.specs.Answer.{FitsAnswer}
 use Rattle.evidence_types.specs.Evidence.{Evidence, empty, nonce, usm, kim, seal, hash, seq_pair, par_pair}
 use Rattle.evidence_types.specs.Bytes.{be16, be32, encoding}
 use Rattle.evidence_codec.specs.declared.fault.Fault.{Fault}
-use Rattle.evidence_codec.specs.Reading.{◌>>=◌, fault, offset, bytes_at, number_at, answer_at, Over, usm_over, kim_over, seal_over, Head, whole, over, pair, nonce_at, usm_at, kim_at, seal_at, hash_at, fields_at, head_at}
+use Rattle.evidence_codec.specs.Reading.{◌>>=◌, offset, bytes_at, number_at, answer_at, Over, usm_over, kim_over, seal_over, Head, whole, over, pair, nonce_at, usm_at, kim_at, seal_at, hash_at, fields_at, head_at}
 use Rattle.evidence_codec.proofs.FieldLemmas.{IsBytes, IsBytes-rest, bind_ok, done, ok_is, Front, Front-then, bytes_take, bytes_again, wide32, number_takes, number_again, answer_takes, answer_again}
 
 -- ---- the bytes of a head, and what its fields are like

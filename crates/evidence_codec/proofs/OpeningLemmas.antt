@@ -4,9 +4,9 @@ use Rattle.std.specs.Prelude.{IfOk}
 use Rattle.evidence_types.specs.declared.value.Value.{Value}
 use Rattle.evidence_types.specs.Evidence.{Evidence}
 use Rattle.evidence_codec.specs.declared.fault.Fault.{Fault}
-use Rattle.evidence_codec.specs.Reading.{◌>>=◌, Found, Over, wrapped, paired, Head, whole, over, pair, parts_at, value_at}
+use Rattle.evidence_codec.specs.Reading.{Found, Over, wrapped, paired, Head, whole, over, pair, parts_at, value_at}
 use Rattle.evidence_codec.specs.Decoding.{whole_of}
-use Rattle.evidence_codec.specs.Opening.{Open, over_open, left_open, right_open, in_node, around, Filled, closed, waiting, filled, Continues, Closes, Takes}
+use Rattle.evidence_codec.specs.Opening.{Open, over_open, left_open, right_open, in_node, around, closed, waiting, filled, Closes, Takes}
 
 -- the innermost node is read from what it waits for, and then those round it
 pub around-push : (edge : Fault) (nodes : List Open) (node : Open) (inner : Found Evidence) (depth deeper : ℕ) → depth ≡ length nodes + suc deeper

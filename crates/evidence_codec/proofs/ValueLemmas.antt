@@ -1,14 +1,13 @@
 -- A value that is read is the value that was written, and a value that was written is read again, whatever follows it.
-use Rattle.std.proofs.Common.{◌≡◌, ℕ, zero, suc, ◌+◌, ◌-◌, ◌^◌, ◌<◌, ◌≤◌, Bool, true, false, List, [], ◌∷◌, ◌++◌, length, Result, Ok, Err, refl, sym, ap, subst, ◌∙◌, append_assoc, arith}
-use Rattle.evidence_types.specs.Answer.{FitsAnswer}
+use Rattle.std.proofs.Common.{◌≡◌, ℕ, zero, suc, ◌+◌, ◌≤◌, Bool, true, false, List, [], ◌∷◌, ◌++◌, Ok, refl, sym, ap, subst, ◌∙◌, append_assoc, arith}
 use Rattle.evidence_types.specs.Evidence.{Evidence, empty, nonce, usm, kim, seal, hash, seq_pair, par_pair}
-use Rattle.evidence_types.specs.Bytes.{be16, be32, encoding, nesting}
+use Rattle.evidence_types.specs.Bytes.{encoding, nesting}
 use Rattle.evidence_codec.specs.declared.fault.BadKind.TheVariants.{Short}
 use Rattle.evidence_codec.specs.declared.fault.Fault.{Fault}
 use Rattle.evidence_codec.specs.WellFormed.{IsWellFormed}
 use Rattle.evidence_codec.specs.Reading.{◌>>=◌, Found, Over, usm_over, kim_over, seal_over, wrapped, paired, Head, whole, over, pair, head_at, parts_at, value_at}
-use Rattle.evidence_codec.proofs.FieldLemmas.{IsBytes, bind_ok, done, ok_is, Front, Front-then}
-use Rattle.evidence_codec.proofs.HeadLemmas.{over_spelled, spelled, IsOver, IsLeaf, IsHead, HeadRead, head_takes, head_again}
+use Rattle.evidence_codec.proofs.FieldLemmas.{IsBytes, bind_ok, ok_is, Front, Front-then}
+use Rattle.evidence_codec.proofs.HeadLemmas.{over_spelled, spelled, IsOver, IsLeaf, IsHead, head_takes, head_again}
 
 -- ---- the bytes of a node are those of its head and of its parts
 

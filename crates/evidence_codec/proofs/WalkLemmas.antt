@@ -1,13 +1,13 @@
 -- Reading a value node by node comes to what the definition reads.
-use Rattle.std.proofs.Common.{◌≡◌, ℕ, zero, suc, ◌+◌, ◌-◌, ◌<◌, ◌≤◌, Bool, true, false, List, [], ◌∷◌, ◌++◌, length, Option, Some, None, Result, Ok, Err, refl, sym, ap, subst, ◌∙◌, arith, length-append}
+use Rattle.std.proofs.Common.{◌≡◌, ℕ, zero, suc, ◌+◌, ◌-◌, ◌<◌, ◌≤◌, true, false, List, [], ◌∷◌, length, Option, Some, None, Ok, Err, refl, sym, ap, subst, ◌∙◌, arith, length-append}
 use Rattle.evidence_types.specs.Evidence.{Evidence, empty, nonce, usm, kim, seal, hash, seq_pair, par_pair}
 use Rattle.evidence_codec.specs.declared.fault.Fault.{Fault}
-use Rattle.evidence_codec.specs.Reading.{◌>>=◌, Found, Over, usm_over, kim_over, seal_over, Head, whole, over, pair, head_at, parts_at, value_at}
+use Rattle.evidence_codec.specs.Reading.{◌>>=◌, Found, usm_over, kim_over, seal_over, Head, whole, over, pair, head_at, parts_at, value_at}
 use Rattle.evidence_codec.specs.Opening.{Open, around, Continues, Takes}
 use Rattle.evidence_codec.specs.Decoding.{head_within}
 use Rattle.evidence_codec.proofs.OpeningLemmas.{around-err}
 use Rattle.evidence_codec.proofs.FieldLemmas.{IsBytes}
-use Rattle.evidence_codec.proofs.HeadLemmas.{spelled, IsHead, HeadRead, head_takes}
+use Rattle.evidence_codec.proofs.HeadLemmas.{spelled, IsHead, head_takes}
 use Rattle.evidence_codec.proofs.ValueLemmas.{value-head}
 
 -- the bytes are read up to `rest`, and what is read comes to the value of all of them

@@ -1,5 +1,5 @@
 -- The nodes that are open while a value is read: those whose parts aren't all read yet.
-use Rattle.std.specs.Prelude.{◌≡◌, ◌≤◌, ◌+◌, ◌-◌, ℕ, zero, suc, Bool, List, [], ◌∷◌, length, Option, Some, None, Result, Ok, Err}
+use Rattle.std.specs.Prelude.{◌≡◌, ◌≤◌, ◌+◌, ◌-◌, ℕ, zero, suc, Bool, List, [], ◌∷◌, length, Option, Some, None, Ok}
 use Rattle.evidence_types.specs.Evidence.{Evidence}
 use Rattle.evidence_codec.specs.declared.fault.Fault.{Fault}
 use Rattle.evidence_codec.specs.Reading.{◌>>=◌, Found, Over, wrapped, paired, Head, parts_at, value_at}

@@ -13,8 +13,10 @@ mod fields;
 mod head;
 mod laws;
 mod nodes;
+#[cfg(test)]
+mod tests;
 
 pub use decoding::decode;
 pub use encoding::encode;
-pub use fault::{BadKind, DecodeError, Fault};
+pub use fault::{BadKind, DecodeError};
 pub use laws::{fault_or_bundle, one_spelling, one_value};

@@ -1,4 +1,4 @@
-use Rattle.std.proofs.Common.{Ok, subst, arith}
+use Rattle.std.proofs.Common.{subst, arith}
 use Rattle.evidence_types.specs.Evidence.{evidence}
 use Rattle.evidence_codec.specs.Decoding.{Decodes}
 use Rattle.evidence_codec.proofs.BundleLemmas.{is_found, read_again}

@@ -1,12 +1,10 @@
 -- The loop's nodes are as many as its list has, and each turn takes the head of the next node.
-use Rattle.std.proofs.Common.{◌≡◌, ℕ, length, Option, ap, subst, ◌∙◌, sym, arith}
+use Rattle.std.proofs.Common.{◌≡◌, length, Option, subst, arith}
 use Rattle.std.proofs.lemmas.List.{length-map}
 use Rattle.evidence_types.specs.declared.value.Value.{Value}
 use Rattle.evidence_types.specs.Evidence.{evidence}
 use Rattle.evidence_codec.specs.Opening.{Takes}
-use Rattle.evidence_codec.specs.Decoding.{Fails, open_of, opens_of, head_of, whole_of}
-use Rattle.evidence_codec.specs.Reading.{value_at}
-use Rattle.evidence_codec.specs.declared.fault.DecodeError.{DecodeError}
+use Rattle.evidence_codec.specs.Decoding.{open_of, opens_of, head_of, whole_of}
 use Rattle.evidence_codec.proofs.WalkLemmas.{walk-first, walk-fault, walk-next, walk-all}
 use Rattle.evidence_codec.proofs.decoding.value_at.Goals as goal
 

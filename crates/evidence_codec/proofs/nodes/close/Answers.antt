@@ -2,9 +2,8 @@
 use Rattle.std.proofs.Common.{◌≡◌, ◌∷◌, ◌++◌, [], sym, arith}
 use Rattle.std.proofs.lemmas.List.{map_push, nil_from_length}
 use Rattle.evidence_types.specs.Evidence.{evidence}
-use Rattle.evidence_codec.specs.Opening.{Open, Closes}
 use Rattle.evidence_codec.specs.Decoding.{open_of, opens_of}
-use Rattle.evidence_codec.proofs.OpeningLemmas.{Same, same-closed, same-waiting, same-all}
+use Rattle.evidence_codec.proofs.OpeningLemmas.{same-closed, same-waiting, same-all}
 use Rattle.evidence_codec.proofs.nodes.close.Goals as goal
 
 pub loop-node-preserved : goal.loop-node-preserved

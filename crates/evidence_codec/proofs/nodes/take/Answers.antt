@@ -1,5 +1,4 @@
 use Rattle.evidence_types.specs.Evidence.{evidence}
-use Rattle.evidence_codec.specs.Opening.{Takes}
 use Rattle.evidence_codec.specs.Decoding.{over_of, opens_of}
 use Rattle.evidence_codec.proofs.OpeningLemmas.{takes-if-closes, takes-under, takes-pair}
 use Rattle.evidence_codec.proofs.nodes.take.Goals as goal
