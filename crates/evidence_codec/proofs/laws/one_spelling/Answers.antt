@@ -1,0 +1,5 @@
+use Rattle.evidence_codec.proofs.ValueLemmas.{one_spelling}
+use Rattle.evidence_codec.proofs.laws.one_spelling.Goals as goal
+
+pub returns : goal.returns
+returns c = one_spelling

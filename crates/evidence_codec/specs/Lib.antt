@@ -1,0 +1,4 @@
+pub mod WellFormed
+pub mod Reading
+pub mod Opening
+pub mod Decoding
