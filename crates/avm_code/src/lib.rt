@@ -7,11 +7,11 @@
 #![tactic(auto)]
 
 mod instr;
-mod list;
+mod lines;
 mod program;
 mod text;
 
 pub use instr::{BlockName, Instr};
-pub use list::listing;
+pub use lines::listing;
 pub use program::{Block, Code, Program};
 pub use text::{push_asp, push_bytes, push_decimal, push_signs};

@@ -34,7 +34,8 @@ fn open_block(
     place: Place,
 ) -> Result<usize, NoMemory>
     ensures slot { IfOk result (λ slot. slot ≡ length blocks.old.items) }
-    ensures blocks { OnOk result (blocks.new.items ≡ blocks.old.items ++ block (BlockName.Of number) place [] ∷ []) }
+    ensures blocks { OnOk result
+        (blocks.new.items ≡ blocks.old.items ++ block (BlockName.Of number) place [] ∷ []) }
 {
     let slot = blocks.len();
     blocks.push(Block {
@@ -54,7 +55,8 @@ fn close_block(
     mut code: Vec<Instr>,
 ) -> Result<(), NoMemory>
     requires { slot < vec_len blocks.old }
-    ensures { OnOk result (blocks.new.items ≡ slice_set blocks.old.items slot (block (BlockName.Of number) place (code.items ++ Instr.End ∷ []))) }
+    ensures { OnOk result (blocks.new.items ≡ slice_set blocks.old.items slot
+        (block (BlockName.Of number) place (code.items ++ Instr.End ∷ []))) }
 {
     push_instr(&mut code, Instr::End)?;
     blocks[slot] = Block {
@@ -77,8 +79,10 @@ fn part(
 ) -> Result<u32, NoMemory>
     requires { number + event_count (term phrase.now) < 2 ^ 32 }
     ensures next { IfOk result (λ next. next ≡ number + event_count (term phrase.now)) }
-    ensures code { OnOk result ((rest : List Instr) → code.new.items ++ rest ≡ code.old.items ++ code_of (term phrase.now) number rest) }
-    ensures blocks { OnOk result (blocks.new.items ≡ blocks.old.items ++ blocks_of (term phrase.now) place number) }
+    ensures code { OnOk result ((rest : List Instr) →
+        code.new.items ++ rest ≡ code.old.items ++ code_of (term phrase.now) number rest) }
+    ensures blocks { OnOk result
+        (blocks.new.items ≡ blocks.old.items ++ blocks_of (term phrase.now) place number) }
 {
     match phrase {
         Phrase::Cpy => push_leaf(code, number, Instr::Copy(number)),

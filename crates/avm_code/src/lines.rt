@@ -17,7 +17,8 @@ fn push_numbered(text: &mut Vec<u8>, word: &[u8], number: u32) -> Result<(), NoM
 }
 
 fn push_measuring(text: &mut Vec<u8>, word: &[u8], number: u32, asp: &Asp) -> Result<(), NoMemory>
-    ensures { OnOk result (text.new.items ≡ text.old.items ++ (word.now ++ decimal number ++ codes " " ++ asp_text asp.now)) }
+    ensures { OnOk result
+        (text.new.items ≡ text.old.items ++ (word.now ++ decimal number ++ codes " " ++ asp_text asp.now)) }
 {
     push_numbered(text, word, number)?;
     push_bytes(text, b" ")?;
@@ -25,7 +26,8 @@ fn push_measuring(text: &mut Vec<u8>, word: &[u8], number: u32, asp: &Asp) -> Re
 }
 
 fn push_placed(text: &mut Vec<u8>, word: &[u8], number: u32, place: &Place) -> Result<(), NoMemory>
-    ensures { OnOk result (text.new.items ≡ text.old.items ++ (word.now ++ decimal number ++ codes " " ++ place.now)) }
+    ensures { OnOk result
+        (text.new.items ≡ text.old.items ++ (word.now ++ decimal number ++ codes " " ++ place.now)) }
 {
     push_numbered(text, word, number)?;
     push_bytes(text, b" ")?;
@@ -39,7 +41,9 @@ fn push_targeted(
     target: &Place,
     asp: &Asp,
 ) -> Result<(), NoMemory>
-    ensures { OnOk result (text.new.items ≡ text.old.items ++ (word.now ++ decimal number ++ codes " " ++ target.now ++ codes " " ++ asp_text asp.now)) }
+    ensures { OnOk result
+        (text.new.items ≡ text.old.items ++ (word.now
+        ++ decimal number ++ codes " " ++ target.now ++ codes " " ++ asp_text asp.now)) }
 {
     push_placed(text, word, number, target)?;
     push_bytes(text, b" ")?;
@@ -52,7 +56,8 @@ fn push_branching(
     number: u32,
     split: Split,
 ) -> Result<(), NoMemory>
-    ensures { OnOk result (text.new.items ≡ text.old.items ++ (word.now ++ decimal number ++ codes " " ++ signs_text split)) }
+    ensures { OnOk result
+        (text.new.items ≡ text.old.items ++ (word.now ++ decimal number ++ codes " " ++ signs_text split)) }
 {
     push_numbered(text, word, number)?;
     push_bytes(text, b" ")?;
@@ -60,7 +65,8 @@ fn push_branching(
 }
 
 fn push_naming(text: &mut Vec<u8>, word: &[u8], number: u32, name: u32) -> Result<(), NoMemory>
-    ensures { OnOk result (text.new.items ≡ text.old.items ++ (word.now ++ decimal number ++ codes " " ++ decimal name)) }
+    ensures { OnOk result
+        (text.new.items ≡ text.old.items ++ (word.now ++ decimal number ++ codes " " ++ decimal name)) }
 {
     push_numbered(text, word, number)?;
     push_bytes(text, b" ")?;
