@@ -1,0 +1,5 @@
+pub mod Text
+pub mod Listing
+pub mod Blocks
+pub mod Heights
+pub mod Made

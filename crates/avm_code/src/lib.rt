@@ -1,0 +1,17 @@
+//! Code of attestation machines, after Petz and Alexander, NFM 2021: instructions, blocks and
+//! programs, and the text in which a program is listed. The instructions and their numbers are this
+//! project's own.
+//!
+//! No pointer stands in an instruction, a block or a program, so clauses and definitions, here and
+//! above, go by cases on these types themselves: code is a list of `Instr`, a program a list of `Block`.
+#![tactic(auto)]
+
+mod instr;
+mod lines;
+mod program;
+mod text;
+
+pub use instr::{BlockName, Instr};
+pub use lines::listing;
+pub use program::{Block, Code, Program};
+pub use text::{push_asp, push_bytes, push_decimal, push_signs};
