@@ -5,6 +5,7 @@
 
 mod lexeme;
 mod refusal;
+mod state;
 mod token;
 
 pub use refusal::{Kind, ReadError};
