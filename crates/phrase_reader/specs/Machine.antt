@@ -102,16 +102,16 @@ begun_from _ inner stack next = None
 abbrev pub begun : State → Stage → Option State
 begun state next = begun_from state.stage state.inner state.stack next
 
-abbrev pub inside : State → Bracket → State
-inside state bracket =
-    record { inner = fresh; stack = record { outer = state.inner; bracket = bracket } ∷ state.stack; stage = unit_next }
+abbrev pub inside : Parts → List Frame → Bracket → State
+inside inner stack bracket =
+    record { inner = fresh; stack = record { outer = inner; bracket = bracket } ∷ stack; stage = unit_next }
 
 abbrev pub round_opened : Stage → State → Option State
-round_opened unit_next state = Some (inside state Round)
+round_opened unit_next state = Some (inside state.inner state.stack Round)
 round_opened _ state = None
 
 abbrev pub square_opened : Stage → State → Option State
-square_opened (square_next place) state = Some (inside state (Square place))
+square_opened (square_next place) state = Some (inside state.inner state.stack (Square place))
 square_opened _ state = None
 
 abbrev pub left_behind : Frame → List Frame → Term → State
@@ -148,14 +148,22 @@ abbrev pub branched : Option Arm → Option State → Option State
 branched None next = next
 branched (Some arm) next = None
 
+-- a name, where one must come
+abbrev pub with_name : Stage → List ℕ → Option Stage
+with_name place_next name = Some (square_next name)
+with_name target_next name = Some (service_next (Some name))
+with_name (service_next target) name = Some (measured target (record { name = name; args = [] }))
+with_name _ name = None
+
+abbrev pub named : Stage → Arg → Option Stage
+named stage (Word name) = with_name stage name
+named stage (Number number) = None
+
 -- a name or a decimal
 abbrev pub valued : Stage → Arg → Option Stage
-valued place_next (Word name) = Some (square_next name)
-valued target_next (Word name) = Some (service_next (Some name))
-valued (service_next target) (Word name) = Some (measured target (record { name = name; args = [] }))
 valued (measured target asp) value =
     Some (measured target (record { name = asp.name; args = asp.args ++ value ∷ [] }))
-valued _ value = None
+valued stage value = named stage value
 
 abbrev pub with_stage : State → Stage → State
 with_stage state stage = record { inner = state.inner; stack = state.stack; stage = stage }
@@ -183,11 +191,17 @@ abbrev pub args_full : Stage → Bool
 args_full (measured target asp) = nat_le 4 (length asp.args)
 args_full _ = false
 
+abbrev pub too_many : Stage → Option Kind
+too_many stage = if args_full stage then Some kinds.TooManyArgs else None
+
+abbrev pub too_deep : List Frame → Option Kind
+too_deep stack = if nat_le 64 (length stack) then Some kinds.TooDeep else None
+
 -- the limit that a token breaks which fits, the count of events aside
 abbrev pub limit : State → Token → Option Kind
-limit state (tokens.Value value) = if args_full state.stage then Some kinds.TooManyArgs else None
-limit state tokens.OpenRound = if nat_le 64 (length state.stack) then Some kinds.TooDeep else None
-limit state tokens.OpenSquare = if nat_le 64 (length state.stack) then Some kinds.TooDeep else None
+limit state (tokens.Value value) = too_many state.stage
+limit state tokens.OpenRound = too_deep state.stack
+limit state tokens.OpenSquare = too_deep state.stack
 limit state _ = None
 
 abbrev pub limited : Option Kind → ℕ → Option Kind
@@ -241,3 +255,10 @@ Gives (Ok next) after limits = (after ≡ Some (state_of next)) × (limits ≡ N
 Gives (Err Unfit) after limits = after ≡ None
 Gives (Err (Limit kind)) after limits = (is_some after ≡ true) × (limits ≡ Some kind)
 Gives (Err Memory) after limits = Unit {0}
+
+-- the same for a call that gives a stage
+abbrev pub GivesStage : Result coded_stage.Stage Stop → Option Stage → Option Kind → Type 0
+GivesStage (Ok next) after limits = (after ≡ Some (stage_of next)) × (limits ≡ None)
+GivesStage (Err Unfit) after limits = after ≡ None
+GivesStage (Err (Limit kind)) after limits = (is_some after ≡ true) × (limits ≡ Some kind)
+GivesStage (Err Memory) after limits = Unit {0}
