@@ -61,7 +61,7 @@ args_run inner stack target name before (arg ∷ rest) =
     args_run inner stack target name (before ++ arg ∷ []) rest
     ∙ ap (λ args. Some (state_at inner stack (measured target (record { name = name; args = args })))) (append_assoc before (arg ∷ []) rest)
 
-measurement_run : (inner : Parts) (stack : List Frame) (target : Option (List ℕ)) (asp : Asp) → run (state_at inner stack unit_next) (measurement_tokens target asp) ≡ Some (state_at inner stack (measured target asp))
+pub measurement_run : (inner : Parts) (stack : List Frame) (target : Option (List ℕ)) (asp : Asp) → run (state_at inner stack unit_next) (measurement_tokens target asp) ≡ Some (state_at inner stack (measured target asp))
 measurement_run inner stack None asp = args_run inner stack None asp.name [] asp.args
 measurement_run inner stack (Some target) asp = args_run inner stack (Some target) asp.name [] asp.args
 

@@ -6,7 +6,9 @@ use Rattle.std.proofs.lemmas.Bool.{and_parts, or_cases}
 use Rattle.std.proofs.lemmas.Bool.Decides.{nat_tests}
 use Rattle.std.proofs.lemmas.Str.{IsUtf8-from_ascii}
 use Rattle.phrase_tree.specs.Name.{IsName, is_name, is_name_byte, is_small_letter}
-use Rattle.phrase_reader.specs.Tokens.{decimal_from}
+use Rattle.std.specs.List.{prefix_len}
+use Rattle.std.proofs.lemmas.List.Sums.{prefix_len-le-length}
+use Rattle.phrase_reader.specs.Tokens.{decimal_from, is_blank}
 
 letter_ascii : (byte : ℕ) → is_small_letter byte ≡ true → byte < 128
 letter_ascii byte h = grind (arith, nat_tests, and_parts)
@@ -46,3 +48,6 @@ capped_more value i next digits h e =
     ap (λ n. min (decimal_from n (drop (i + 1) digits)) 4294967296) e
     ∙ (capped_step value (get_or digits i 0) (drop (i + 1) digits)
     ∙ ap (λ ds. min (decimal_from value ds) 4294967296) (sym first))
+
+pub few_blanks : (text : List ℕ) → prefix_len is_blank text ≤ length text
+few_blanks text = prefix_len-le-length is_blank text

@@ -2,3 +2,4 @@ pub mod Tokens
 pub mod Grammar
 pub mod Refusal
 pub mod Machine
+pub mod Reading

@@ -45,10 +45,10 @@ closed_in (token ∷ rest) = closes token + closed_in rest
 abbrev pub open_in : List Token → ℕ
 open_in spelled = opened_in spelled - closed_in spelled
 
--- behind these tokens, which end in a measurement with four arguments, a name or a decimal is the fifth
+-- a name or a decimal behind a measurement that has four arguments already
 abbrev pub IsFifthArgument : List Token → Token → Type 0
 IsFifthArgument before token =
-    (value : Arg) × (token ≡ tokens.Value value) × (front : List Token) × (target : Option (List ℕ)) × (asp : Asp) × (length asp.args ≡ 4) × (before ≡ front ++ measurement_tokens target asp)
+    (value : Arg) × (token ≡ tokens.Value value) × (front : List Token) × (target : Option (List ℕ)) × (asp : Asp) × (4 ≤ length asp.args) × (before ≡ front ++ measurement_tokens target asp)
 
 -- the rules on a token behind those before it; Trailing and Expected leave the limits aside
 abbrev pub BreaksRule : List Token → Token → Kind → Type 0

@@ -1,4 +1,4 @@
-ghost use Rattle.std.specs.Prelude.{◌≡◌, ◌∷◌, ◌==◌, ◌||◌, nat_le, min, SomeIff};
+ghost use Rattle.std.specs.Prelude.{◌≡◌, ◌∷◌, ◌==◌, ◌||◌, ◌≤◌, length, nat_le, min, SomeIff};
 ghost use Rattle.std.specs.List.{prefix_len, list_all};
 ghost use Rattle.phrase_tree.specs.Name.{IsName};
 ghost use Rattle.phrase_reader.specs.Tokens.{is_blank, begins_word, continues_word, decimal_from, is_decimal, is_digit, word_token, after_sign, after_signs, front, word_lexeme, mark, decimal_token};
@@ -35,8 +35,10 @@ fn continues_word(byte: u8) -> bool
 }
 
 /// How many blanks stand at the front.
+#[tactic(auto, using(crate::proofs::Words::few_blanks))]
 pub fn blanks(text: &[u8]) -> usize
-    ensures { result ≡ prefix_len is_blank text.now }
+    ensures longest { result ≡ prefix_len is_blank text.now }
+    ensures few { result ≤ length text.now }
 {
     text.iter().take_while(|byte| is_blank(**byte)).count()
 }

@@ -4,8 +4,11 @@
 #![tactic(auto)]
 
 mod lexeme;
+mod piece;
+mod reader;
 mod refusal;
 mod state;
 mod token;
 
+pub use reader::read;
 pub use refusal::{Kind, ReadError};
