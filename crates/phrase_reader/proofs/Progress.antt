@@ -185,3 +185,41 @@ progress_rejects text offset state events token place rest (Refused other kind) 
       , λ e. (u q k).1 (sym h.0 ∙ e.0, e.1)
       )
 progress_rejects text offset state events token place rest NoMemory p f h = tt
+
+pub too_long_found : (text : List ℕ) → 65536 < length text → (phrase : Term) → (⊥ → IsRead text phrase) × (IsRead text phrase → ⊥)
+too_long_found text long phrase = (λ b. absurd b, λ r. r.accepted 65536 TooLong (inl (long, refl, refl)))
+
+-- a text of few bytes has no refusal but that of its tokens
+few_refused : (text : List ℕ) (place : ℕ) (kind : Kind) → length text ≤ 65536 → IsRefusal text place kind → Refuses [] (found 0 0 text) place kind
+few_refused text place kind few (inl long) = absurd (omega (arith, long.0))
+few_refused text place kind few (inr more) = more.1
+
+pub read_found : (text : List ℕ) (r : Result Phrase ReadError) → length text ≤ 65536 → Reads r (found 0 0 text) → (phrase : Term) → UnlessNoMemory r (AnswersWith r phrase ↔ IsRead text phrase)
+read_found text (Ok phrase) few h spelled =
+    ( λ e. record {
+        accepted = λ q k g. h.1 q k (few_refused text q k few g);
+        spelled = (h.2 spelled).1 e;
+      }
+    , λ i. (h.2 spelled).0 i.spelled
+    )
+read_found text (Err (Refused place kind)) few h spelled =
+    (λ b. absurd b, λ i. i.accepted place kind (inr (few, (h place kind).1 (refl, refl))))
+read_found text (Err NoMemory) few h spelled = tt
+
+abbrev refusal : ℕ → Kind → Result Phrase ReadError
+refusal place kind = Err (Refused place kind)
+
+same_refusal : (place q : ℕ) (kind k : Kind) → refusal place kind ≡ refusal q k → (place ≡ q) × (kind ≡ k)
+same_refusal place q kind k e = (cc, cc)
+
+refusal_same : (place q : ℕ) (kind k : Kind) → (place ≡ q) × (kind ≡ k) → refusal place kind ≡ refusal q k
+refusal_same place q kind k e = cc
+
+pub read_refused : (text : List ℕ) (r : Result Phrase ReadError) → length text ≤ 65536 → Reads r (found 0 0 text) → (place : ℕ) (kind : Kind) → UnlessNoMemory r ((r ≡ Err (Refused place kind)) ↔ IsRefusal text place kind)
+read_refused text (Ok phrase) few h q k =
+    (λ e. cc, λ g. absurd (h.1 q k (few_refused text q k few g)))
+read_refused text (Err (Refused place kind)) few h q k =
+    ( λ e. inr (few, (h q k).1 (same_refusal place q kind k e))
+    , λ g. refusal_same place q kind k ((h q k).0 (few_refused text q k few g))
+    )
+read_refused text (Err NoMemory) few h q k = tt
