@@ -1,1 +1,2 @@
 mod WorkedPhrases
+pub mod DepthBounds

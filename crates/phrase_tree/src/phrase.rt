@@ -1,9 +1,11 @@
-ghost use Rattle.std.specs.Prelude.{◌≡◌, ◌<◌, ◌^◌};
-ghost use Rattle.phrase_tree.specs.Term.{term};
-ghost use Rattle.phrase_tree.specs.Numbering.{event_count};
+ghost use Rattle.std.specs.Prelude.{◌≡◌, ◌<◌, ◌^◌, ◌||◌, IfOk};
+ghost use Rattle.phrase_tree.specs.Term.{term, is_branch, is_chain};
+ghost use Rattle.phrase_tree.specs.Numbering.{event_count, depth};
 
 use crate::measurement::Asp;
+use crate::memory::NoMemory;
 use crate::name::Place;
+use std::alloc::Global;
 
 /// Which arms of a branch get the evidence that stood before it: `true` all of it, `false` none.
 #[derive(Clone, Copy, Debug, PartialEq, Eq)]
@@ -50,5 +52,78 @@ impl Phrase {
                 2 + left.events() + right.events()
             }
         }
+    }
+}
+
+impl Phrase {
+    fn is_branch(&self) -> bool
+        ensures { result ≡ is_branch (term self.now) }
+    {
+        match self {
+            Phrase::Seq(_, _, _) | Phrase::Par(_, _, _) => true,
+            _ => false,
+        }
+    }
+
+    fn is_chain(&self) -> bool
+        ensures { result ≡ is_chain (term self.now) }
+    {
+        match self {
+            Phrase::Then(_, _) => true,
+            _ => false,
+        }
+    }
+
+    /// The greatest number of brackets that are open at once in its canonical text. Takes no memory,
+    /// and time linear in the phrase.
+    #[tactic(auto, using(crate::proofs::DepthBounds::depth_below))]
+    pub fn depth(&self) -> u32
+        requires { event_count (term self.now) < 2 ^ 32 }
+        ensures { result ≡ depth (term self.now) }
+    {
+        match self {
+            Phrase::Cpy | Phrase::Sig | Phrase::Hsh | Phrase::Usm(_) | Phrase::Kim(_, _) => 0,
+            Phrase::At(_, body) => 1 + body.depth(),
+            Phrase::Then(left, right) => {
+                let first = left.depth() + u32::from(left.is_branch());
+                let second = right.depth() + u32::from(right.is_branch() || right.is_chain());
+                first.max(second)
+            }
+            Phrase::Seq(_, left, right) | Phrase::Par(_, left, right) => {
+                let first = left.depth() + u32::from(left.is_branch());
+                let second = right.depth() + u32::from(right.is_branch());
+                first.max(second)
+            }
+        }
+    }
+
+    /// An equal phrase. An error is want of memory. Takes time linear in the phrase.
+    pub fn try_copy(&self, alloc: Global) -> Result<Phrase, NoMemory>
+        ensures { IfOk result (λ copy. term copy ≡ term self.now) }
+    {
+        Ok(match self {
+            Phrase::Cpy => Phrase::Cpy,
+            Phrase::Sig => Phrase::Sig,
+            Phrase::Hsh => Phrase::Hsh,
+            Phrase::Usm(asp) => Phrase::Usm(asp.copy()),
+            Phrase::Kim(target, asp) => Phrase::Kim(*target, asp.copy()),
+            Phrase::At(place, body) => {
+                Phrase::At(*place, Box::new(alloc, body.try_copy(alloc)?)?)
+            }
+            Phrase::Then(left, right) => Phrase::Then(
+                Box::new(alloc, left.try_copy(alloc)?)?,
+                Box::new(alloc, right.try_copy(alloc)?)?,
+            ),
+            Phrase::Seq(split, left, right) => Phrase::Seq(
+                *split,
+                Box::new(alloc, left.try_copy(alloc)?)?,
+                Box::new(alloc, right.try_copy(alloc)?)?,
+            ),
+            Phrase::Par(split, left, right) => Phrase::Par(
+                *split,
+                Box::new(alloc, left.try_copy(alloc)?)?,
+                Box::new(alloc, right.try_copy(alloc)?)?,
+            ),
+        })
     }
 }

@@ -1,0 +1,11 @@
+pub mod Words
+pub mod Frames
+pub mod Drives
+pub mod Meaning
+pub mod Closing
+pub mod Counts
+pub mod Sized
+pub mod Verdicts
+pub mod Lexing
+pub mod Progress
+mod Rows

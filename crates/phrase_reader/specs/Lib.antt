@@ -1,0 +1,5 @@
+pub mod Tokens
+pub mod Grammar
+pub mod Refusal
+pub mod Machine
+pub mod Reading

@@ -1,0 +1,14 @@
+//! Reads and prints the text of a phrase. The whole grammar, the tokens and the nine refusals stand in
+//! `specs/` as relations on whole texts and lists of tokens; the code goes over the bytes once, with a
+//! stack of open brackets, in time linear in the text.
+#![tactic(auto)]
+
+mod lexeme;
+mod piece;
+mod reader;
+mod refusal;
+mod state;
+mod token;
+
+pub use reader::read;
+pub use refusal::{Kind, ReadError};

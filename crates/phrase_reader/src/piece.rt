@@ -1,0 +1,34 @@
+ghost use Rattle.std.specs.Prelude.{◌≤◌, length};
+ghost use Rattle.phrase_reader.specs.Reading.{Finds};
+
+use crate::lexeme::{Lexeme, blanks, front};
+use crate::refusal::Kind;
+use crate::token::Token;
+
+/// What is found from an offset of a text on, blanks passed over.
+#[derive(Clone, Copy, Debug, PartialEq, Eq)]
+pub enum Piece {
+    /// A token, where it begins, and the offset behind it.
+    Token(Token, usize, usize),
+    /// A byte or a word that is refused, with its offset.
+    Refused(Kind, usize),
+    /// The end, with its offset.
+    End(usize),
+}
+
+/// What is found from an offset on. Its time is linear in the bytes that it passes over.
+pub fn find(text: &[u8], offset: usize) -> Piece
+    requires small { length text.now ≤ 65536 }
+    requires inside { offset ≤ length text.now }
+    ensures { Finds text.now offset result }
+{
+    let (_, rest) = text.split_at(offset);
+    let blanks = blanks(rest);
+    let (_, unread) = rest.split_at(blanks);
+    let start = offset + blanks;
+    match front(unread) {
+        Lexeme::Read(token, len) => Piece::Token(token, start, start + len),
+        Lexeme::Refused(kind, past) => Piece::Refused(kind, start + past),
+        Lexeme::End => Piece::End(start),
+    }
+}

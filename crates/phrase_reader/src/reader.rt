@@ -1,0 +1,151 @@
+ghost use Rattle.std.specs.Prelude.{ℕ, ◌≡◌, ◌≤◌, ◌↔◌, ◌+◌, length, IfOk, Err, nat_lt};
+ghost use Rattle.phrase_tree.specs.Term.{Term, term};
+ghost use Rattle.phrase_tree.specs.Numbering.{IsSized};
+ghost use Rattle.phrase_reader.specs.declared.refusal.Kind.{Kind};
+ghost use Rattle.phrase_reader.specs.Tokens.{found};
+ghost use Rattle.phrase_reader.specs.Refusal.{IsRefusal, IsRead, token_events};
+ghost use Rattle.phrase_reader.specs.Machine.{start, finished, unfit, step, limit, verdict, state_of};
+ghost use Rattle.phrase_reader.specs.Reading.{AnswersWith, UnlessNoMemory, Reads, Accepts, AcceptsCount, Finishes, stopped};
+
+use crate::piece::{Piece, find};
+use crate::refusal::{Kind, ReadError};
+use crate::state::{State, Stop};
+use crate::token::Token;
+use phrase_tree::Phrase;
+use std::alloc::Global;
+
+/// The greatest length of a text, in bytes.
+const TEXT_BYTES: usize = 65_536;
+
+/// The greatest count of events.
+const EVENTS: u32 = 1_024;
+
+/// What was read of a text, how many events it counts, and why a token is refused that doesn't fit.
+#[derive(Debug, Drop)]
+pub struct Reader {
+    pub state: State,
+    pub events: u32,
+    pub unfit: Kind,
+}
+
+fn unfit(state: &State) -> Kind
+    ensures { result ≡ unfit (finished (state_of state.now)) }
+{
+    if state.is_finished() {
+        return Kind::Trailing;
+    }
+    Kind::Expected
+}
+
+fn counted(state: State, events: u32, place: u32) -> Result<Reader, ReadError>
+    ensures { AcceptsCount (state_of state) events place result }
+{
+    if events > EVENTS {
+        return Err(ReadError::Refused {
+            at: place,
+            kind: Kind::TooManyEvents,
+        });
+    }
+    let unfit = unfit(&state);
+    Ok(Reader {
+        state,
+        events,
+        unfit,
+    })
+}
+
+fn stopped(stop: Stop, unfit: Kind, place: u32) -> ReadError
+    ensures { result ≡ stopped stop unfit place }
+{
+    match stop {
+        Stop::Unfit => ReadError::Refused {
+            at: place,
+            kind: unfit,
+        },
+        Stop::Limit(kind) => ReadError::Refused { at: place, kind },
+        Stop::Memory => ReadError::NoMemory,
+    }
+}
+
+impl Reader {
+    fn accept(self, alloc: Global, token: Token, place: u32) -> Result<Reader, ReadError>
+        requires few { self.events ≤ 1024 }
+        requires ready { self.unfit ≡ unfit (finished (state_of self.state)) }
+        ensures { Accepts (state_of self.state) self.events token place result }
+    {
+        let Reader {
+            state,
+            events,
+            unfit,
+        } = self;
+        let events = events + token.events();
+        match state.push(alloc, token) {
+            Ok(after) => counted(after, events, place),
+            Err(stop) => Err(stopped(stop, unfit, place)),
+        }
+    }
+
+    fn finish(self, alloc: Global, place: u32) -> Result<Phrase, ReadError>
+        ensures { Finishes (state_of self.state) place result }
+    {
+        let Ok(phrase) = self.state.phrase(alloc) else {
+            return Err(ReadError::NoMemory);
+        };
+        match phrase {
+            Some(phrase) => Ok(phrase),
+            None => Err(ReadError::Refused {
+                at: place,
+                kind: Kind::Expected,
+            }),
+        }
+    }
+}
+
+fn read_bytes(alloc: Global, text: &[u8]) -> Result<Phrase, ReadError>
+    requires { length text.now ≤ 65536 }
+    ensures { Reads result (found 0 0 text.now) }
+{
+    let mut reader = Reader {
+        state: State::new(alloc),
+        events: 0,
+        unfit: Kind::Expected,
+    };
+    let mut offset = 0;
+    'tokens: loop {
+        match find(text, offset) {
+            Piece::Token(token, start, next) => {
+                match reader.accept(alloc, token, start as u32) {
+                    Ok(after) => reader = after,
+                    Err(error) => return Err(error),
+                }
+                offset = next;
+            }
+            Piece::Refused(kind, place) => {
+                return Err(ReadError::Refused {
+                    at: place as u32,
+                    kind,
+                });
+            }
+            Piece::End(place) => return reader.finish(alloc, place as u32),
+        }
+    }
+}
+
+/// Reads the text of a phrase. The answer is a phrase exactly where the text has no refusal and its
+/// tokens spell that phrase; it has at most 1,024 events and 64 open brackets. Else it is the first
+/// refusal of the text, with its offset in bytes, or want of memory. The bytes are read once, with a
+/// stack of open brackets, in time linear in the text.
+pub fn read(alloc: Global, text: &str) -> Result<Phrase, ReadError>
+    ensures found { (phrase : Term) → UnlessNoMemory result (AnswersWith result phrase ↔ IsRead text.now phrase) }
+    ensures refused { (place : ℕ) (kind : Kind) → UnlessNoMemory result ((result ≡ Err (ReadError.Refused place kind)) ↔ IsRefusal text.now place kind) }
+    ensures sized { IfOk result (λ phrase. IsSized (term phrase)) }
+{
+    let bytes = text.as_bytes();
+    if bytes.len() > TEXT_BYTES {
+        return Err(ReadError::Refused {
+            at: TEXT_BYTES as u32,
+            kind: Kind::TooLong,
+        });
+    }
+    read_bytes(alloc, bytes)
+}
