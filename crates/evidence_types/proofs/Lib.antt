@@ -1,1 +1,4 @@
 mod WorkedBundles
+mod WorkedShapes
+pub mod ShapeLemmas
+pub mod WeightLemmas

@@ -1,14 +1,24 @@
-//! Evidence of Copland: the answers of measurers, the values that phrases make of them, and the
-//! bytes of a value and of its bundle. After the evidence forms of Ramsdell et al., Orchestrating
-//! Layered Attestations, POST 2019; the bytes are this project's own.
+//! Evidence of Copland: the answers of measurers, the values that phrases make of them, the bytes of
+//! a value and of its bundle, and the shapes and weights of evidence. After the evidence forms of
+//! Ramsdell et al., Orchestrating Layered Attestations, POST 2019; the bytes, the weights and the
+//! text of a shape are this project's own.
 //!
-//! Clauses see a value by its pointer-free twin, `evidence value` of `specs/Evidence.antt`.
+//! Clauses see a value by its pointer-free twin, `evidence value` of `specs/Evidence.antt`, and a
+//! shape by its twin, `form shape` of `specs/Shape.antt`.
 #![tactic(auto)]
 
 mod answer;
 mod answers;
+mod shape;
+mod shaping;
+mod text;
 mod value;
+mod weight;
 
 pub use answer::Answer;
 pub use answers::Answers;
+pub use shape::Shape;
+pub use shaping::shape_of;
+pub use text::shape_text;
 pub use value::Value;
+pub use weight::{first_over, weight_is_of_shape, worst};

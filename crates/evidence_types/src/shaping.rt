@@ -1,0 +1,132 @@
+ghost use Rattle.std.specs.Prelude.{◌≡◌, ◌<◌, ◌+◌, ◌^◌, IfOk};
+ghost use Rattle.phrase_tree.specs.Term.{term};
+ghost use Rattle.phrase_tree.specs.Numbering.{IsSized, event_count};
+ghost use Rattle.evidence_types.specs.Shape.{arm_shape, form, shape_at, shape_from};
+ghost use Rattle.evidence_types.specs.Weight.{IsLight};
+
+use crate::shape::Shape;
+use phrase_tree::{NoMemory, Phrase, Place};
+use std::alloc::Global;
+
+/// The shape of the evidence that a session of this phrase makes at this root, from its nonce and
+/// from event 0 on. The evidence that both arms of a branch get stands in the shape twice, so the
+/// time is linear in the shape, which has at most as many parts as it weighs.
+pub fn shape_of(alloc: Global, phrase: &Phrase, place: Place) -> Result<Shape, NoMemory>
+    requires sized { IsSized (term phrase.now) }
+    requires light { IsLight (term phrase.now) }
+    ensures { IfOk result (λ shape. form shape ≡ shape_at (term phrase.now) place) }
+{
+    shape_from(alloc, phrase, place, 0, Shape::Nonce)
+}
+
+/// The shape that a phrase makes at a place, from a number on, of the shape before it.
+fn shape_from(
+    alloc: Global,
+    phrase: &Phrase,
+    place: Place,
+    number: u32,
+    before: Shape,
+) -> Result<Shape, NoMemory>
+    requires { number + event_count (term phrase.now) < 2 ^ 32 }
+    ensures { IfOk result (λ shape. form shape ≡ shape_from (term phrase.now) place number (form before)) }
+{
+    match phrase {
+        Phrase::Cpy => Ok(before),
+        Phrase::Sig => Ok(Shape::Sig(number, place, Box::new(alloc, before)?)),
+        Phrase::Hsh => Ok(Shape::Hsh(number, place, Box::new(alloc, before)?)),
+        Phrase::Usm(asp) => Ok(Shape::Usm(number, place, asp.copy(), Box::new(alloc, before)?)),
+        Phrase::Kim(target, asp) => Ok(Shape::Kim(
+            number,
+            place,
+            *target,
+            asp.copy(),
+            Box::new(alloc, before)?,
+        )),
+        Phrase::At(asked, body) => shape_from(alloc, body, *asked, number + 1, before),
+        Phrase::Then(left, right) => {
+            let between = shape_from(alloc, left, place, number, before)?;
+            shape_from(alloc, right, place, number + left.events(), between)
+        }
+        Phrase::Seq(split, left, right) => {
+            let after_split = number + 1;
+            let before_left = arm_shape(alloc, split.left, &before)?;
+            let first = shape_from(alloc, left, place, after_split, before_left)?;
+            let before_right = arm_shape(alloc, split.right, &before)?;
+            let second = shape_from(
+                alloc,
+                right,
+                place,
+                after_split + left.events(),
+                before_right,
+            )?;
+            Ok(Shape::SeqPair(Box::new(alloc, first)?, Box::new(alloc, second)?))
+        }
+        Phrase::Par(split, left, right) => {
+            let after_split = number + 1;
+            let before_left = arm_shape(alloc, split.left, &before)?;
+            let first = shape_from(alloc, left, place, after_split, before_left)?;
+            let before_right = arm_shape(alloc, split.right, &before)?;
+            let second = shape_from(
+                alloc,
+                right,
+                place,
+                after_split + left.events(),
+                before_right,
+            )?;
+            Ok(Shape::ParPair(Box::new(alloc, first)?, Box::new(alloc, second)?))
+        }
+    }
+}
+
+/// What an arm of a branch starts with.
+fn arm_shape(alloc: Global, gets_all: bool, before: &Shape) -> Result<Shape, NoMemory>
+    ensures { IfOk result (λ shape. form shape ≡ arm_shape gets_all (form before.now)) }
+{
+    if gets_all {
+        copy_of(alloc, before)
+    } else {
+        Ok(Shape::Empty)
+    }
+}
+
+/// The same shape again.
+fn copy_of(alloc: Global, shape: &Shape) -> Result<Shape, NoMemory>
+    ensures { IfOk result (λ copy. form copy ≡ form shape.now) }
+{
+    match shape {
+        Shape::Empty => Ok(Shape::Empty),
+        Shape::Nonce => Ok(Shape::Nonce),
+        Shape::Usm(event, place, asp, under) => {
+            let copied = copy_of(alloc, under)?;
+            Ok(Shape::Usm(*event, *place, asp.copy(), Box::new(alloc, copied)?))
+        }
+        Shape::Kim(event, place, target, asp, under) => {
+            let copied = copy_of(alloc, under)?;
+            Ok(Shape::Kim(
+                *event,
+                *place,
+                *target,
+                asp.copy(),
+                Box::new(alloc, copied)?,
+            ))
+        }
+        Shape::Sig(event, place, under) => {
+            let copied = copy_of(alloc, under)?;
+            Ok(Shape::Sig(*event, *place, Box::new(alloc, copied)?))
+        }
+        Shape::Hsh(event, place, under) => {
+            let copied = copy_of(alloc, under)?;
+            Ok(Shape::Hsh(*event, *place, Box::new(alloc, copied)?))
+        }
+        Shape::SeqPair(left, right) => {
+            let first = copy_of(alloc, left)?;
+            let second = copy_of(alloc, right)?;
+            Ok(Shape::SeqPair(Box::new(alloc, first)?, Box::new(alloc, second)?))
+        }
+        Shape::ParPair(left, right) => {
+            let first = copy_of(alloc, left)?;
+            let second = copy_of(alloc, right)?;
+            Ok(Shape::ParPair(Box::new(alloc, first)?, Box::new(alloc, second)?))
+        }
+    }
+}
