@@ -1,5 +1,4 @@
--- The weight of shapes, and of a phrase's evidence at each event. Weights are this project's own: a
--- value that fits a shape has at most as many bytes as the shape weighs.
+-- The weight of shapes, and of a phrase's evidence at each event. Weights are this project's own.
 use Rattle.std.specs.Prelude.{◌≡◌, ◌+◌, ℕ, List, [], ◌∷◌, ◌++◌, Bool, Option, None, Some, max, nat_lt, if◌then◌else◌}
 use Rattle.phrase_tree.specs.Term.{Term, cpy, sig, hsh, usm, kim, at, chain, seq, par}
 use Rattle.phrase_tree.specs.Numbering.{event_count}

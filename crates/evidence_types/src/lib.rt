@@ -10,6 +10,8 @@
 mod answer;
 mod answers;
 mod shape;
+#[cfg(test)]
+mod shape_tests;
 mod shaping;
 mod text;
 mod value;

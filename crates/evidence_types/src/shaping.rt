@@ -5,7 +5,7 @@ ghost use Rattle.evidence_types.specs.Shape.{arm_shape, form, shape_at, shape_fr
 ghost use Rattle.evidence_types.specs.Weight.{IsLight};
 
 use crate::shape::Shape;
-use phrase_tree::{NoMemory, Phrase, Place};
+use phrase_tree::{NoMemory, Phrase, Place, Split};
 use std::alloc::Global;
 
 /// The shape of the evidence that a session of this phrase makes at this root, from its nonce and
@@ -48,45 +48,42 @@ fn shape_from(
             shape_from(alloc, right, place, number + left.events(), between)
         }
         Phrase::Seq(split, left, right) => {
-            let after_split = number + 1;
-            let before_left = arm_shape(alloc, split.left, &before)?;
-            let first = shape_from(alloc, left, place, after_split, before_left)?;
-            let before_right = arm_shape(alloc, split.right, &before)?;
-            let second = shape_from(
-                alloc,
-                right,
-                place,
-                after_split + left.events(),
-                before_right,
-            )?;
+            let (before_left, before_right) = arms(alloc, split, before)?;
+            let first = shape_from(alloc, left, place, number + 1, before_left)?;
+            let next = number + 1 + left.events();
+            let second = shape_from(alloc, right, place, next, before_right)?;
             Ok(Shape::SeqPair(Box::new(alloc, first)?, Box::new(alloc, second)?))
         }
         Phrase::Par(split, left, right) => {
-            let after_split = number + 1;
-            let before_left = arm_shape(alloc, split.left, &before)?;
-            let first = shape_from(alloc, left, place, after_split, before_left)?;
-            let before_right = arm_shape(alloc, split.right, &before)?;
-            let second = shape_from(
-                alloc,
-                right,
-                place,
-                after_split + left.events(),
-                before_right,
-            )?;
-            Ok(Shape::ParPair(Box::new(alloc, first)?, Box::new(alloc, second)?))
+            let (before_left, before_right) = arms(alloc, split, before)?;
+            let one = shape_from(alloc, left, place, number + 1, before_left)?;
+            let next = number + 1 + left.events();
+            let other = shape_from(alloc, right, place, next, before_right)?;
+            Ok(Shape::ParPair(Box::new(alloc, one)?, Box::new(alloc, other)?))
         }
     }
 }
 
-/// What an arm of a branch starts with.
-fn arm_shape(alloc: Global, gets_all: bool, before: &Shape) -> Result<Shape, NoMemory>
-    ensures { IfOk result (λ shape. form shape ≡ arm_shape gets_all (form before.now)) }
+/// What the two arms of a branch start with.
+fn arms(alloc: Global, split: &Split, before: Shape) -> Result<(Shape, Shape), NoMemory>
+    ensures left { IfOk result (λ arms. form arms.0 ≡ arm_shape split.now.left (form before)) }
+    ensures right { IfOk result (λ arms. form arms.1 ≡ arm_shape split.now.right (form before)) }
 {
-    if gets_all {
-        copy_of(alloc, before)
-    } else {
-        Ok(Shape::Empty)
+    if !split.right {
+        return Ok((arm(split.left, before), Shape::Empty));
     }
+    if !split.left {
+        return Ok((Shape::Empty, before));
+    }
+    let copied = copy_of(alloc, &before)?;
+    Ok((before, copied))
+}
+
+/// What one arm starts with, where the other has no use for the evidence.
+fn arm(gets_all: bool, before: Shape) -> Shape
+    ensures { form result ≡ arm_shape gets_all (form before) }
+{
+    if gets_all { before } else { Shape::Empty }
 }
 
 /// The same shape again.

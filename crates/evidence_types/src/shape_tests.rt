@@ -1,0 +1,179 @@
+ghost use Rattle.std.specs.Prelude.{◌≡◌, ◌≤◌, ◌+◌, ◌*◌, ◌<◌, ◌^◌, false, IfOk};
+ghost use Rattle.phrase_tree.specs.Term.{term, at, chain, is_branch, is_chain, par, seq};
+ghost use Rattle.phrase_tree.specs.Numbering.{IsSized, depth, event_count};
+
+use crate::shaping::shape_of;
+use crate::text::shape_text;
+use crate::weight::{first_over, worst};
+use phrase_tree::{Arg, Args, Asp, Name, NoMemory, Phrase, Split};
+use std::alloc::Global;
+use std::process::Abort;
+use std::test::Fail;
+
+fn name(rt: &impl Abort, text: &str) -> Name {
+    Name::read(text).expect(rt, "a name")
+}
+
+fn asp(rt: &impl Abort, text: &str) -> Asp {
+    Asp {
+        name: name(rt, text),
+        args: Args::none(),
+    }
+}
+
+fn then(alloc: Global, left: Phrase, right: Phrase) -> Result<Phrase, NoMemory>
+    ensures { IfOk result (λ phrase. term phrase ≡ chain (term left) (term right)) }
+{
+    Ok(Phrase::Then(Box::new(alloc, left)?, Box::new(alloc, right)?))
+}
+
+fn both_ways(alloc: Global, split: Split, left: Phrase, right: Phrase) -> Result<Phrase, NoMemory>
+    ensures { IfOk result (λ phrase. term phrase ≡ seq split (term left) (term right)) }
+{
+    Ok(Phrase::Seq(split, Box::new(alloc, left)?, Box::new(alloc, right)?))
+}
+
+/// Checks the shape of a phrase at the place `bank`, and its greatest weight.
+fn expect_shape(
+    rt: &impl Abort,
+    alloc: Global,
+    phrase: &Phrase,
+    text: &[u8],
+    weight: u32,
+) -> Result<(), NoMemory>
+    requires { IsSized (term phrase.now) }
+{
+    assert_eq!(rt; worst(phrase), weight);
+    let None = first_over(phrase) else {
+        assert!(rt; false, "a weight is over");
+        return Ok(());
+    };
+    let shape = shape_of(alloc, phrase, name(rt, "bank"))?;
+    let found = shape_text(alloc, &shape)?;
+    assert_eq!(rt; found.items(), text);
+    Ok(())
+}
+
+// The shapes and weights were worked by hand from the rules, and compared with another program.
+#[test]
+fn shapes_and_weights_are_those_of_worked_phrases(rt: HostRuntime) -> Result<(), Fail> {
+    let alloc = rt.alloc();
+    let all = Split {
+        left: true,
+        right: true,
+    };
+    let to_left = Split {
+        left: true,
+        right: false,
+    };
+    let to_right = Split {
+        left: false,
+        right: true,
+    };
+    let sealed = then(alloc, Phrase::Usm(asp(&rt, "scan")), Phrase::Sig)?;
+    expect_shape(&rt, alloc, &sealed, b"G(bank,1,U(bank,0,scan,N))", 1085)?;
+    let arms = Phrase::Par(
+        to_left,
+        Box::new(alloc, Phrase::Usm(asp(&rt, "a")))?,
+        Box::new(alloc, Phrase::Usm(asp(&rt, "b")))?,
+    );
+    expect_shape(&rt, alloc, &arms, b"P(U(bank,1,a,N),U(bank,2,b,E))", 2081)?;
+    let late = both_ways(alloc, to_right, Phrase::Cpy, Phrase::Cpy)?;
+    expect_shape(&rt, alloc, &late, b"S(E,N)", 19)?;
+    let pair = both_ways(alloc, all, Phrase::Cpy, Phrase::Cpy)?;
+    let hashed = then(alloc, pair, Phrase::Hsh)?;
+    expect_shape(&rt, alloc, &hashed, b"H(bank,4,S(N,N))", 72)?;
+    let mut files = asp(&rt, "files");
+    assert!(rt; files.args.push(Arg::Word(name(&rt, "etc"))).is_ok());
+    assert!(rt; files.args.push(Arg::Number(4294967295)).is_ok());
+    let asked = Phrase::At(
+        name(&rt, "us"),
+        Box::new(
+            alloc,
+            then(
+                alloc,
+                Phrase::Kim(name(&rt, "ks"), asp(&rt, "kernel")),
+                Phrase::Usm(files),
+            )?,
+        )?,
+    );
+    expect_shape(
+        &rt,
+        alloc,
+        &asked,
+        b"U(us,2,files etc 4294967295,K(us,1,ks,kernel,N))",
+        2079,
+    )?;
+    Ok(())
+}
+
+/// A part that is repeated in a long chain.
+#[derive(Clone, Copy)]
+enum Part {
+    Measured,
+    Sealed,
+    Branched,
+}
+
+fn one_more(rt: &impl Abort, alloc: Global, part: Part) -> Result<Phrase, NoMemory>
+    ensures few { IfOk result (λ phrase. event_count (term phrase) ≤ 4) }
+    ensures flat { IfOk result (λ phrase. depth (term phrase) ≡ 0) }
+    ensures no_chain { IfOk result (λ phrase. is_chain (term phrase) ≡ false) }
+{
+    match part {
+        Part::Measured => Ok(Phrase::Usm(asp(rt, "a"))),
+        Part::Sealed => Ok(Phrase::Sig),
+        Part::Branched => both_ways(
+            alloc,
+            Split {
+                left: false,
+                right: true,
+            },
+            Phrase::Cpy,
+            Phrase::Cpy,
+        ),
+    }
+}
+
+/// A phrase and then a part so many times.
+fn followed(
+    rt: &impl Abort,
+    alloc: Global,
+    first: Phrase,
+    repeated: Part,
+    times: u32,
+) -> Result<Phrase, NoMemory>
+    requires no_branch { is_branch (term first) ≡ false }
+    requires flat { depth (term first) ≤ 1 }
+    ensures no_branch { IfOk result (λ phrase. is_branch (term phrase) ≡ false) }
+    ensures flat { IfOk result (λ phrase. depth (term phrase) ≤ 1) }
+    ensures few { IfOk result (λ phrase. event_count (term phrase) ≤ event_count (term first) + 4 * times) }
+{
+    let mut phrase = first;
+    for count in 0..times {
+        let next = one_more(rt, alloc, repeated)?;
+        phrase = then(alloc, phrase, next)?;
+    }
+    Ok(phrase)
+}
+
+// 233 measurements with seals and branches behind them; the sums were done by another program.
+#[test]
+fn the_weight_of_long_chains_ends_at_its_limit(rt: HostRuntime) -> Result<(), Fail> {
+    let alloc = rt.alloc();
+    for (measured, sealed, branched, weight, over) in [
+        (233, 592, 0, 262144, None),
+        (233, 591, 19, 262145, Some(899)),
+        (254, 0, 0, 261891, None),
+        (255, 0, 0, 262145, Some(254)),
+    ] {
+        let first = Phrase::Usm(asp(&rt, "a"));
+        let many = followed(&rt, alloc, first, Part::Measured, measured - 1)?;
+        let under_seals = followed(&rt, alloc, many, Part::Sealed, sealed)?;
+        let phrase = followed(&rt, alloc, under_seals, Part::Branched, branched)?;
+        assert!(rt; phrase.events() <= 1024);
+        assert_eq!(rt; worst(&phrase), weight);
+        assert_eq!(rt; first_over(&phrase), over);
+    }
+    Ok(())
+}
