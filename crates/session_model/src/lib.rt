@@ -2,3 +2,7 @@
 //! session are right. Definitions alone, for the crates that evaluate, run and report sessions; they
 //! recurse over phrases and speak of whole lists, and know no stack, store or thread.
 #![tactic(auto)]
+
+mod laws;
+
+pub use laws::value_fits_shape;
