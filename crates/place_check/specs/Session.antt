@@ -1,0 +1,30 @@
+-- Which phrases a checked session may have, and the fact that a session was checked against places.
+use Rattle.std.specs.Prelude.{◌≡◌, ℕ, List, [], IsTrue}
+use Rattle.phrase_tree.specs.declared.phrase.Phrase.{Phrase}
+use Rattle.phrase_tree.specs.Term.{Term, term}
+use Rattle.phrase_tree.specs.Numbering.{IsSized}
+use Rattle.evidence_types.specs.Weight.{IsLight}
+use Rattle.session_model.specs.Session.{Session}
+use Rattle.place_check.specs.declared.entry.PlaceEntry.{PlaceEntry}
+use Rattle.place_check.specs.Places.{is_place}
+use Rattle.place_check.specs.Rules.{faults}
+
+-- a checked session as the program holds it
+pub record CheckedSession : Type 0 where
+  pub root : List ℕ
+  pub nonce : List ℕ
+  pub phrase : Phrase
+
+-- the session that it is
+abbrev pub session_of : CheckedSession → Session
+session_of checked = record { root = checked.root; nonce = checked.nonce; phrase = term checked.phrase }
+
+-- a phrase of at most 1,024 events and 64 open brackets, whose evidence is nowhere over the limit
+pub record IsBounded (phrase : Term) : Type 0 where
+  pub sized : IsSized phrase
+  pub light : IsLight phrase
+
+-- a session was checked against places: its root is one of them, and its phrase breaks no rule
+pub record IsCheckedAgainst (session : Session) (places : List PlaceEntry) : Type 0 where
+  pub rooted : IsTrue (is_place places session.root)
+  pub placed : faults places session.root session.phrase ≡ []
