@@ -9,8 +9,9 @@ use phrase_tree::{NoMemory, Phrase, Place, Split};
 use std::alloc::Global;
 
 /// The shape of the evidence that a session of this phrase makes at this root, from its nonce and
-/// from event 0 on. The evidence that both arms of a branch get stands in the shape twice, so the
-/// time is linear in the shape, which has at most as many parts as it weighs.
+/// from event 0 on. The evidence that both arms of a branch get stands in the shape twice; a shape has
+/// at most as many parts as it weighs. Takes time linear in the shape, and in the square of the number
+/// of the phrase's events.
 pub fn shape_of(alloc: Global, phrase: &Phrase, place: Place) -> Result<Shape, NoMemory>
     requires sized { IsSized (term phrase.now) }
     requires light { IsLight (term phrase.now) }

@@ -1,9 +1,11 @@
 -- Which phrases a checked session may have, and the fact that a session was checked against places.
-use Rattle.std.specs.Prelude.{◌≡◌, ℕ, List, [], IsTrue}
+use Rattle.std.specs.Prelude.{◌≡◌, ℕ, List, [], ◌∷◌, IsTrue, is_some}
 use Rattle.phrase_tree.specs.declared.phrase.Phrase.{Phrase}
 use Rattle.phrase_tree.specs.Term.{Term, term}
 use Rattle.phrase_tree.specs.Numbering.{IsSized}
+use Rattle.phrase_tree.specs.Events.{Event, events_of}
 use Rattle.evidence_types.specs.Weight.{IsLight}
+use Rattle.seal_hmac.specs.Keys.{key_of}
 use Rattle.session_model.specs.Session.{Session}
 use Rattle.place_check.specs.declared.entry.PlaceEntry.{PlaceEntry}
 use Rattle.place_check.specs.Places.{is_place}
@@ -28,3 +30,12 @@ pub record IsBounded (phrase : Term) : Type 0 where
 pub record IsCheckedAgainst (session : Session) (places : List PlaceEntry) : Type 0 where
   pub rooted : IsTrue (is_place places session.root)
   pub placed : faults places session.root session.phrase ≡ []
+
+-- each of these events happens at a place that has a key
+abbrev pub HaveKeys : List (List ℕ × List ℕ) → List Event → Type 0
+HaveKeys keys [] = Unit {0}
+HaveKeys keys (event ∷ rest) = IsTrue (is_some (key_of keys event.place)) × HaveKeys keys rest
+
+-- each event of a session does
+abbrev pub SessionHasKeys : Session → List (List ℕ × List ℕ) → Type 0
+SessionHasKeys session keys = HaveKeys keys (events_of session.phrase session.root 0)

@@ -9,6 +9,7 @@
 
 mod checking;
 mod entry;
+mod laws;
 mod places;
 mod repeat;
 mod session;
@@ -18,5 +19,6 @@ mod walk;
 
 pub use checking::check;
 pub use entry::{PlaceEntry, PlaceFault, PlaceKind, PlacesError};
+pub use laws::checked_session_has_keys;
 pub use places::Places;
 pub use session::Checked;

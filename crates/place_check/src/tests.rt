@@ -1,5 +1,5 @@
 ghost use Rattle.std.specs.Prelude.{◌≡◌, IfOk};
-ghost use Rattle.phrase_tree.specs.Term.{term, at, chain};
+ghost use Rattle.phrase_tree.specs.Term.{term, at};
 ghost use Rattle.phrase_tree.specs.Numbering.{IsSized};
 
 use super::*;
@@ -51,22 +51,72 @@ fn asked(alloc: Global, place: Name, body: Phrase) -> Result<Phrase, NoMemory>
     Ok(Phrase::At(place, Box::new(alloc, body)?))
 }
 
-/// What a check at `bank` of this phrase answers: whether it is accepted, or its fault.
-fn fault_of(rt: &impl Abort, places: &Places, phrase: Phrase) -> Option<PlaceFault>
+/// `@q [USM ..]`.
+fn q_measures(rt: &impl Abort, alloc: Global, text: &str) -> Result<Phrase, NoMemory>
+    ensures { IfOk result (λ phrase. IsSized (term phrase)) }
+{
+    asked(alloc, name(rt, "q"), usm(rt, text))
+}
+
+/// `@q [@bank [CPY]]`.
+fn q_asks_back(rt: &impl Abort, alloc: Global) -> Result<Phrase, NoMemory>
+    ensures { IfOk result (λ phrase. IsSized (term phrase)) }
+{
+    let inner = asked(alloc, name(rt, "bank"), Phrase::Cpy)?;
+    asked(alloc, name(rt, "q"), inner)
+}
+
+/// `@zz [CPY] -> USM x`.
+fn bank_asks_no_place(rt: &impl Abort, alloc: Global) -> Result<Phrase, NoMemory>
+    ensures { IfOk result (λ phrase. IsSized (term phrase)) }
+{
+    let first = asked(alloc, name(rt, "zz"), Phrase::Cpy)?;
+    Ok(Phrase::Then(Box::new(alloc, first)?, Box::new(alloc, usm(rt, "x"))?))
+}
+
+/// `KIM bank scan`.
+fn bank_measures_itself(rt: &impl Abort) -> Phrase
+    ensures { IsSized (term result) }
+{
+    Phrase::Kim(
+        name(rt, "bank"),
+        Asp {
+            name: name(rt, "scan"),
+            args: Args::none(),
+        },
+    )
+}
+
+/// `USM a +<- USM c`.
+fn right_arm_is_wrong(rt: &impl Abort, alloc: Global) -> Result<Phrase, NoMemory>
+    ensures { IfOk result (λ phrase. IsSized (term phrase)) }
+{
+    Ok(Phrase::Seq(
+        Split {
+            left: true,
+            right: false,
+        },
+        Box::new(alloc, usm(rt, "a"))?,
+        Box::new(alloc, usm(rt, "c"))?,
+    ))
+}
+
+/// Checks a phrase at `bank`: the fault is to be this one, or none.
+fn expect(rt: &impl Abort, places: &Places, phrase: Phrase, fault: Option<PlaceFault>)
     requires { IsSized (term phrase) }
 {
     let bank = name(rt, "bank");
     let Some(_) = places.find(bank) else {
         assert!(rt; false, "no bank");
-        return None;
+        return;
     };
     match check(places, bank, [7; 16], phrase) {
         Ok(checked) => {
             assert!(rt; checked.root() == bank);
             assert_eq!(rt; *checked.nonce(), [7; 16]);
-            None
+            assert!(rt; fault.is_none());
         }
-        Err(fault) => Some(fault),
+        Err(found) => assert_eq!(rt; Some(found), fault),
     }
 }
 
@@ -74,67 +124,43 @@ fn misplaced(event: u32, kind: PlaceKind) -> Option<PlaceFault> {
     Some(PlaceFault::Misplaced { event, kind })
 }
 
+/// The bank asks, sees and is not asked; q offers `scan` alone.
+fn two_places(rt: &impl Abort, alloc: Global) -> Result<Places, Fail> {
+    let bank = entry(rt, alloc, "bank", 1, &["q"], &["scan", "a", "b"])?;
+    let q = entry(rt, alloc, "q", 2, &[], &["scan"])?;
+    let mut entries = Vec::new(alloc);
+    entries.push(bank)?;
+    entries.push(q)?;
+    Ok(Places::of(alloc, entries)?)
+}
+
+#[test]
+fn places_are_found_by_name(rt: HostRuntime) -> Result<(), Fail> {
+    let places = two_places(&rt, rt.alloc())?;
+    assert_eq!(rt; places.count(), 2);
+    assert_eq!(rt; places.find(name(&rt, "bank")), Some(0));
+    assert_eq!(rt; places.find(name(&rt, "q")), Some(1));
+    assert_eq!(rt; places.find(name(&rt, "zz")), None);
+    assert_eq!(rt; places.keys().items().len(), 2);
+    Ok(())
+}
+
 // The faults were worked by hand from the rules.
 #[test]
 fn the_first_broken_rule_is_named(rt: HostRuntime) -> Result<(), Fail> {
     let alloc = rt.alloc();
-    let q = name(&rt, "q");
-    let bank = name(&rt, "bank");
-    let mut entries = Vec::new(alloc);
-    entries.push(entry(&rt, alloc, "bank", 1, &["q"], &["scan", "a", "b"])?)?;
-    entries.push(entry(&rt, alloc, "q", 2, &[], &["scan"])?)?;
-    assert!(rt; entries.len() == 2);
-    let places = match Places::of(alloc, entries) {
-        Ok(places) => places,
-        Err(_) => return Err("refused".into()),
-    };
-    assert_eq!(rt; places.count(), 2);
-    assert_eq!(rt; places.find(q), Some(1));
-    assert_eq!(rt; places.find(name(&rt, "zz")), None);
-    assert_eq!(rt; places.keys().items().len(), 2);
-    let offered = asked(alloc, q, usm(&rt, "scan"))?;
-    assert_eq!(rt; fault_of(&rt, &places, offered), None);
-    let not_offered = asked(alloc, q, usm(&rt, "a"))?;
-    assert_eq!(rt;
-        fault_of(&rt, &places, not_offered),
-        misplaced(1, PlaceKind::NotOffered)
-    );
-    let back = asked(alloc, q, asked(alloc, bank, Phrase::Cpy)?)?;
-    assert_eq!(rt;
-        fault_of(&rt, &places, back),
-        misplaced(1, PlaceKind::MayNotAsk)
-    );
-    let unknown = Phrase::Then(
-        Box::new(alloc, asked(alloc, name(&rt, "zz"), Phrase::Cpy)?)?,
-        Box::new(alloc, usm(&rt, "x"))?,
-    );
-    assert_eq!(rt;
-        fault_of(&rt, &places, unknown),
-        misplaced(0, PlaceKind::UnknownPlace)
-    );
-    let unseen = Phrase::Kim(
-        bank,
-        Asp {
-            name: name(&rt, "scan"),
-            args: Args::none(),
-        },
-    );
-    assert_eq!(rt;
-        fault_of(&rt, &places, unseen),
-        misplaced(0, PlaceKind::MayNotSee)
-    );
-    let late = Phrase::Seq(
-        Split {
-            left: true,
-            right: false,
-        },
-        Box::new(alloc, usm(&rt, "a"))?,
-        Box::new(alloc, usm(&rt, "c"))?,
-    );
-    assert_eq!(rt;
-        fault_of(&rt, &places, late),
-        misplaced(2, PlaceKind::NotOffered)
-    );
+    let places = two_places(&rt, alloc)?;
+    expect(&rt, &places, q_measures(&rt, alloc, "scan")?, None);
+    let offered = misplaced(1, PlaceKind::NotOffered);
+    expect(&rt, &places, q_measures(&rt, alloc, "a")?, offered);
+    let asks = misplaced(1, PlaceKind::MayNotAsk);
+    expect(&rt, &places, q_asks_back(&rt, alloc)?, asks);
+    let unknown = misplaced(0, PlaceKind::UnknownPlace);
+    expect(&rt, &places, bank_asks_no_place(&rt, alloc)?, unknown);
+    let sees = misplaced(0, PlaceKind::MayNotSee);
+    expect(&rt, &places, bank_measures_itself(&rt), sees);
+    let late = misplaced(2, PlaceKind::NotOffered);
+    expect(&rt, &places, right_arm_is_wrong(&rt, alloc)?, late);
     Ok(())
 }
 
@@ -143,7 +169,6 @@ fn two_places_of_one_name_are_refused(rt: HostRuntime) -> Result<(), Fail> {
     let alloc = rt.alloc();
     let mut entries = Vec::new(alloc);
     for text in ["q", "bank", "us", "bank", "bank"] {
-        assert!(rt; entries.len() < 5);
         entries.push(entry(&rt, alloc, text, 1, &[], &[])?)?;
     }
     assert!(rt; entries.len() == 5);
