@@ -11,6 +11,8 @@ mod memory;
 mod port;
 mod reading;
 mod standard;
+#[cfg(test)]
+mod tests;
 mod writing;
 
 pub use bytes::Bytes;

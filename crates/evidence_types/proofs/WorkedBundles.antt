@@ -1,7 +1,8 @@
 -- Bundles that were made outside this project, by hand from the format: an edit of the definitions is refused here.
-use Rattle.std.proofs.Common.{◌≡◌, ℕ, List, [], ◌∷◌, refl}
-use Rattle.evidence_types.specs.Evidence.{empty, nonce, usm, seq_pair, par_pair}
-use Rattle.evidence_types.specs.Bytes.{bundle}
+use Rattle.std.proofs.Common.{◌≡◌, ℕ, List, [], ◌∷◌, ◌++◌, replicate, refl}
+use Rattle.evidence_types.specs.Evidence.{empty, nonce, usm, kim, seal, hash, seq_pair, par_pair}
+use Rattle.evidence_types.specs.Bytes.{bundle, encoding, nesting}
+use Rattle.evidence_types.specs.Answers.{answer_at, answered}
 
 abbrev first_nonce : List ℕ
 first_nonce = 0 ∷ 1 ∷ 2 ∷ 3 ∷ 4 ∷ 5 ∷ 6 ∷ 7 ∷ 8 ∷ 9 ∷ 10 ∷ 11 ∷ 12 ∷ 13 ∷ 14 ∷ 15 ∷ []
@@ -17,3 +18,25 @@ two_arms_in_parallel = refl
 
 two_arms_in_sequence : bundle (seq_pair (usm 1 (17 ∷ []) empty) (usm 2 (34 ∷ []) (nonce first_nonce))) ≡ 67 ∷ 80 ∷ 76 ∷ 66 ∷ 1 ∷ 0 ∷ 0 ∷ 0 ∷ 35 ∷ 6 ∷ 2 ∷ 0 ∷ 0 ∷ 0 ∷ 1 ∷ 0 ∷ 1 ∷ 17 ∷ 0 ∷ 2 ∷ 0 ∷ 0 ∷ 0 ∷ 2 ∷ 0 ∷ 1 ∷ 34 ∷ 1 ∷ 0 ∷ 1 ∷ 2 ∷ 3 ∷ 4 ∷ 5 ∷ 6 ∷ 7 ∷ 8 ∷ 9 ∷ 10 ∷ 11 ∷ 12 ∷ 13 ∷ 14 ∷ 15 ∷ []
 two_arms_in_sequence = refl
+
+-- 32 bytes in place of a seal or a hash
+abbrev digest : List ℕ
+digest = replicate 32 9
+
+a_target_measured : encoding (kim 258 (170 ∷ []) empty) ≡ 3 ∷ 0 ∷ 0 ∷ 1 ∷ 2 ∷ 0 ∷ 1 ∷ 170 ∷ 0 ∷ []
+a_target_measured = refl
+
+sealed : bundle (seal 2 digest (usm 1 (17 ∷ []) (nonce first_nonce))) ≡ 67 ∷ 80 ∷ 76 ∷ 66 ∷ 1 ∷ 0 ∷ 0 ∷ 0 ∷ 62 ∷ 4 ∷ 0 ∷ 0 ∷ 0 ∷ 2 ∷ (digest ++ (2 ∷ 0 ∷ 0 ∷ 0 ∷ 1 ∷ 0 ∷ 1 ∷ 17 ∷ 1 ∷ first_nonce))
+sealed = refl
+
+hashed : bundle (hash 4 digest) ≡ 67 ∷ 80 ∷ 76 ∷ 66 ∷ 1 ∷ 0 ∷ 0 ∷ 0 ∷ 37 ∷ 5 ∷ 0 ∷ 0 ∷ 0 ∷ 4 ∷ digest
+hashed = refl
+
+three_deep : nesting (seq_pair (hash 1 digest) (kim 2 [] (nonce first_nonce))) ≡ 3
+three_deep = refl
+
+answer_of_an_event : answer_at ((0, 170 ∷ []) ∷ (7, 17 ∷ []) ∷ []) 7 ≡ 17 ∷ []
+answer_of_an_event = refl
+
+events_with_an_answer : answered ((0, 170 ∷ []) ∷ (7, 17 ∷ []) ∷ []) ≡ 0 ∷ 7 ∷ []
+events_with_an_answer = refl

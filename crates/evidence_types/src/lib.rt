@@ -13,6 +13,8 @@ mod shape;
 #[cfg(test)]
 mod shape_tests;
 mod shaping;
+#[cfg(test)]
+mod tests;
 mod text;
 mod value;
 mod weight;

@@ -7,7 +7,7 @@ use Rattle.phrase_tree.specs.declared.measurement.Arg.TheVariants.{Word}
 use Rattle.phrase_tree.specs.declared.phrase.Split.{Split}
 use Rattle.phrase_tree.specs.Term.{Term, cpy, sig, hsh, usm, kim, at, chain, seq, par}
 use Rattle.phrase_tree.specs.Numbering.{event_count, depth}
-use Rattle.phrase_tree.specs.Events.{Event, event, copies, measures, measures_at, seals, hashes, requests, replies, splits, joins, events_of}
+use Rattle.phrase_tree.specs.Events.{event, copies, measures, measures_at, seals, hashes, requests, replies, splits, joins, events_of}
 
 abbrev bank : List ℕ
 bank = codes "bank"

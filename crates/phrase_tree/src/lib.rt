@@ -11,6 +11,8 @@ mod measurement;
 mod memory;
 mod name;
 mod phrase;
+#[cfg(test)]
+mod tests;
 
 pub use lists::{Names, Trace};
 pub use measurement::{Arg, Args, Asp};
