@@ -3,3 +3,4 @@ pub mod Asking
 pub mod Bench
 pub mod Digest
 pub mod Seeking
+pub mod Table

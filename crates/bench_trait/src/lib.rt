@@ -9,9 +9,13 @@ mod ask;
 mod asking;
 mod bench;
 mod digest;
+mod table;
+#[cfg(test)]
+mod tests;
 
 pub use artefacts::{Artefact, ArtefactBook, BookError};
 pub use ask::{Ask, AskKind};
 pub use asking::ask_of;
 pub use bench::{Bench, BenchFault, MeasureError};
 pub use digest::DigestBench;
+pub use table::{TableBench, TableResult, TableRow};
