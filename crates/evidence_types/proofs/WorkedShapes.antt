@@ -1,5 +1,5 @@
 -- Shapes, their texts and weights, worked outside this project: an edit of the definitions is refused here.
-use Rattle.std.proofs.Common.{◌≡◌, ◌+◌, ℕ, List, [], ◌∷◌, ◌++◌, Option, None, Some, suc, zero, true, false, refl}
+use Rattle.std.proofs.Common.{◌≡◌, ℕ, List, [], ◌∷◌, None, Some, suc, zero, true, false, refl}
 use Rattle.std.specs.Prelude.{codes}
 use Rattle.std.specs.Fmt.{digits}
 use Rattle.phrase_tree.specs.declared.measurement.Arg.TheVariants.{Word}
@@ -7,10 +7,10 @@ use Rattle.phrase_tree.specs.declared.measurement.Arg.{Arg}
 use Rattle.phrase_tree.specs.declared.measurement.Asp.{Asp}
 use Rattle.phrase_tree.specs.declared.phrase.Split.{Split}
 use Rattle.phrase_tree.specs.Term.{Term, cpy, sig, hsh, usm, kim, at, chain, seq, par}
-use Rattle.evidence_types.specs.Evidence.{Evidence, empty, nonce, usm as usm_value, hash, par_pair, seq_pair}
-use Rattle.evidence_types.specs.Shape.{Form, Fits, shape_at}
+use Rattle.evidence_types.specs.Evidence.{empty, nonce, usm as usm_value, hash, par_pair, seq_pair}
+use Rattle.evidence_types.specs.Shape.{Fits, shape_at}
 use Rattle.evidence_types.specs.ShapeText.{shape_text}
-use Rattle.evidence_types.specs.Weight.{oversize_at, weight, weights, worst_weight}
+use Rattle.evidence_types.specs.Weight.{oversize_at, weights, worst_weight}
 
 abbrev both : Split
 both = record { left = true; right = true }

@@ -1,17 +1,17 @@
 -- The events of a phrase that breaks no rule happen at places, and each place has its key.
-use Rattle.std.proofs.Common.{◌≡◌, ◌+◌, ℕ, Bool, true, false, List, [], ◌∷◌, ◌++◌, Option, None, Some, IsTrue, if◌then◌else◌, nat_eq, map, refl, sym, ap, ◌∙◌, subst}
+use Rattle.std.proofs.Common.{◌≡◌, ◌+◌, ℕ, Bool, true, false, List, [], ◌∷◌, ◌++◌, Option, Some, IsTrue, if◌then◌else◌, nat_eq, map, refl, sym, ◌∙◌, subst}
 use Rattle.std.specs.Prelude.{is_some}
 use Rattle.std.specs.Cmp.Lexicographic.{pointwise}
 use Rattle.phrase_tree.specs.Term.{Term, cpy, sig, hsh, usm, kim, at, chain, seq, par}
 use Rattle.phrase_tree.specs.Numbering.{event_count}
-use Rattle.phrase_tree.specs.Events.{Event, Kind, event, events_of, requests, replies, joins}
+use Rattle.phrase_tree.specs.Events.{Event, event, events_of, requests, replies, joins}
 use Rattle.seal_hmac.specs.Keys.{key_of}
 use Rattle.session_model.specs.Session.{Session}
 use Rattle.place_check.specs.declared.entry.PlaceEntry.{PlaceEntry}
 use Rattle.place_check.specs.declared.entry.PlaceKind.{PlaceKind}
 use Rattle.place_check.specs.declared.entry.PlaceKind.TheVariants.{UnknownPlace, MayNotAsk}
 use Rattle.place_check.specs.Places.{index_from, is_place, keys_of, may_ask}
-use Rattle.place_check.specs.Rules.{broken_rules, faults_among, faults_at, unless}
+use Rattle.place_check.specs.Rules.{faults_among, faults_at, unless}
 use Rattle.place_check.specs.Session.{HaveKeys, IsCheckedAgainst, SessionHasKeys}
 use Rattle.place_check.proofs.RuleLemmas.{faults-append}
 

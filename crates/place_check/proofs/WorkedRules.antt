@@ -1,11 +1,9 @@
 -- Broken rules that were worked outside this project: an edit of the definitions is refused here.
-use Rattle.std.proofs.Common.{◌≡◌, ℕ, List, [], ◌∷◌, Option, None, Some, true, refl}
+use Rattle.std.proofs.Common.{◌≡◌, ℕ, List, [], ◌∷◌, None, Some, true, refl}
 use Rattle.std.specs.Prelude.{codes}
 use Rattle.phrase_tree.specs.declared.measurement.Asp.{Asp}
-use Rattle.phrase_tree.specs.declared.phrase.Split.{Split}
-use Rattle.phrase_tree.specs.Term.{Term, cpy, usm, kim, at, chain, par}
+use Rattle.phrase_tree.specs.Term.{cpy, usm, kim, at, chain, par}
 use Rattle.place_check.specs.declared.entry.PlaceEntry.{PlaceEntry}
-use Rattle.place_check.specs.declared.entry.PlaceKind.{PlaceKind}
 use Rattle.place_check.specs.declared.entry.PlaceKind.TheVariants.{UnknownPlace, MayNotAsk, NotOffered, MayNotSee}
 use Rattle.place_check.specs.Places.{keys_of, place_index, repeats}
 use Rattle.place_check.specs.Rules.{faults}

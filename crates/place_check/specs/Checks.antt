@@ -1,5 +1,5 @@
 -- What a check of a session answers.
-use Rattle.std.specs.Prelude.{◌≡◌, ℕ, List, [], Option, None, Some, Result, Ok, Err}
+use Rattle.std.specs.Prelude.{◌≡◌, List, [], Some, Result, Ok, Err}
 use Rattle.evidence_types.specs.Weight.{oversize_at}
 use Rattle.place_check.specs.declared.entry.PlaceEntry.{PlaceEntry}
 use Rattle.place_check.specs.declared.entry.PlaceFault.{PlaceFault}

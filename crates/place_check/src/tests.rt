@@ -1,5 +1,5 @@
 ghost use Rattle.std.specs.Prelude.{◌≡◌, IfOk};
-ghost use Rattle.phrase_tree.specs.Term.{term, at};
+ghost use Rattle.phrase_tree.specs.Term.{term, at, chain, seq};
 ghost use Rattle.phrase_tree.specs.Numbering.{IsSized};
 
 use super::*;
@@ -38,11 +38,11 @@ fn entry(
     })
 }
 
-fn usm(rt: &impl Abort, text: &str) -> Phrase {
-    Phrase::Usm(Asp {
+fn asp(rt: &impl Abort, text: &str) -> Asp {
+    Asp {
         name: name(rt, text),
         args: Args::none(),
-    })
+    }
 }
 
 fn asked(alloc: Global, place: Name, body: Phrase) -> Result<Phrase, NoMemory>
@@ -55,7 +55,7 @@ fn asked(alloc: Global, place: Name, body: Phrase) -> Result<Phrase, NoMemory>
 fn q_measures(rt: &impl Abort, alloc: Global, text: &str) -> Result<Phrase, NoMemory>
     ensures { IfOk result (λ phrase. IsSized (term phrase)) }
 {
-    asked(alloc, name(rt, "q"), usm(rt, text))
+    asked(alloc, name(rt, "q"), Phrase::Usm(asp(rt, text)))
 }
 
 /// `@q [@bank [CPY]]`.
@@ -66,39 +66,43 @@ fn q_asks_back(rt: &impl Abort, alloc: Global) -> Result<Phrase, NoMemory>
     asked(alloc, name(rt, "q"), inner)
 }
 
+fn then(alloc: Global, left: Phrase, right: Phrase) -> Result<Phrase, NoMemory>
+    ensures { IfOk result (λ phrase. term phrase ≡ chain (term left) (term right)) }
+{
+    Ok(Phrase::Then(Box::new(alloc, left)?, Box::new(alloc, right)?))
+}
+
 /// `@zz [CPY] -> USM x`.
 fn bank_asks_no_place(rt: &impl Abort, alloc: Global) -> Result<Phrase, NoMemory>
     ensures { IfOk result (λ phrase. IsSized (term phrase)) }
 {
     let first = asked(alloc, name(rt, "zz"), Phrase::Cpy)?;
-    Ok(Phrase::Then(Box::new(alloc, first)?, Box::new(alloc, usm(rt, "x"))?))
+    then(alloc, first, Phrase::Usm(asp(rt, "x")))
 }
 
 /// `KIM bank scan`.
 fn bank_measures_itself(rt: &impl Abort) -> Phrase
     ensures { IsSized (term result) }
 {
-    Phrase::Kim(
-        name(rt, "bank"),
-        Asp {
-            name: name(rt, "scan"),
-            args: Args::none(),
-        },
-    )
+    Phrase::Kim(name(rt, "bank"), asp(rt, "scan"))
+}
+
+fn in_sequence(alloc: Global, split: Split, left: Phrase, right: Phrase) -> Result<Phrase, NoMemory>
+    ensures { IfOk result (λ phrase. term phrase ≡ seq split (term left) (term right)) }
+{
+    Ok(Phrase::Seq(split, Box::new(alloc, left)?, Box::new(alloc, right)?))
 }
 
 /// `USM a +<- USM c`.
 fn right_arm_is_wrong(rt: &impl Abort, alloc: Global) -> Result<Phrase, NoMemory>
     ensures { IfOk result (λ phrase. IsSized (term phrase)) }
 {
-    Ok(Phrase::Seq(
-        Split {
-            left: true,
-            right: false,
-        },
-        Box::new(alloc, usm(rt, "a"))?,
-        Box::new(alloc, usm(rt, "c"))?,
-    ))
+    let split = Split {
+        left: true,
+        right: false,
+    };
+    let left = Phrase::Usm(asp(rt, "a"));
+    in_sequence(alloc, split, left, Phrase::Usm(asp(rt, "c")))
 }
 
 /// Checks a phrase at `bank`: the fault is to be this one, or none.

@@ -20,14 +20,14 @@ value_fits (kim target asp) place i before shape from h = (refl, h)
 value_fits (at asked body) place i before shape from h = value_fits body asked (i + 1) before shape from h
 value_fits (chain left right) place i before shape from h =
     value_fits right place (i + event_count left) (value_of left place i before from) (shape_from left place i shape) from (value_fits left place i before shape from h)
-value_fits (seq split left right) place i before shape from h =
-    ( value_fits left place (i + 1) (part split.left before) (arm_shape split.left shape) from (part_fits split.left before shape h)
-    , value_fits right place (i + 1 + event_count left) (part split.right before) (arm_shape split.right shape) from (part_fits split.right before shape h)
-    )
-value_fits (par split left right) place i before shape from h =
-    ( value_fits left place (i + 1) (part split.left before) (arm_shape split.left shape) from (part_fits split.left before shape h)
-    , value_fits right place (i + 1 + event_count left) (part split.right before) (arm_shape split.right shape) from (part_fits split.right before shape h)
-    )
+value_fits (seq split left right) place i before shape from h = (
+  value_fits left place (i + 1) (part split.left before) (arm_shape split.left shape) from (part_fits split.left before shape h),
+  value_fits right place (i + 1 + event_count left) (part split.right before) (arm_shape split.right shape) from (part_fits split.right before shape h),
+)
+value_fits (par split left right) place i before shape from h = (
+  value_fits left place (i + 1) (part split.left before) (arm_shape split.left shape) from (part_fits split.left before shape h),
+  value_fits right place (i + 1 + event_count left) (part split.right before) (arm_shape split.right shape) from (part_fits split.right before shape h),
+)
 
 pub session_value_fits : (phrase : Term) (root : List ℕ) (from : Makings) → Fits (session_value phrase root from) (shape_at phrase root)
 session_value_fits phrase root from = value_fits phrase root 0 (nonce from.nonce) the_nonce from tt

@@ -8,5 +8,4 @@ use phrase_tree::{Phrase, Place};
 /// answers and the keys are. It does nothing.
 pub fn value_fits_shape(_phrase: &Phrase, _root: Place)
     ensures { (from : Makings) → Fits (session_value (term _phrase.now) _root from) (shape_at (term _phrase.now) _root) }
-{
-}
+{}
