@@ -140,7 +140,7 @@ nothing_so_far phrase i = record { each = λ k lt. absurd (omega arith) }
 pub more_so_far : (phrase : Term) (i : ℕ) (trace : List ℕ) (n : ℕ) → IsTraceSoFar phrase i trace → MayFollow phrase i trace n → IsTraceSoFar phrase i (trace ++ n ∷ [])
 more_so_far phrase i trace n s m = record {
   each = λ k lt. elim (cases_lt k (length trace)) [
-      inl less ↦
+    | inl less ↦
         let ahead : take k trace ≡ take k (trace ++ n ∷ []) = sym (take-append-le k trace (n ∷ []) (omega arith)) in
         let there : slice_index trace k ≡ slice_index (trace ++ n ∷ []) k = sym (get_or_append_left trace (n ∷ []) 0 k less) in
         subst (λ y. MayFollow phrase i (take k (trace ++ n ∷ [])) y) there (subst (λ xs. MayFollow phrase i xs (slice_index trace k)) ahead (s.each k less))
@@ -149,6 +149,6 @@ more_so_far phrase i trace n s m = record {
         let ahead : trace ≡ take (length trace) (trace ++ n ∷ []) = sym (take-append_seam trace (n ∷ [])) in
         let there : n ≡ slice_index (trace ++ n ∷ []) (length trace) = sym (get_or-append_seam trace n [] 0) in
         subst (λ j. MayFollow phrase i (take j (trace ++ n ∷ [])) (slice_index (trace ++ n ∷ []) j)) e
-          (subst (λ y. MayFollow phrase i (take (length trace) (trace ++ n ∷ [])) y) there (subst (λ xs. MayFollow phrase i xs n) ahead m))
-    ];
+        (subst (λ y. MayFollow phrase i (take (length trace) (trace ++ n ∷ [])) y) there (subst (λ xs. MayFollow phrase i xs n) ahead m))
+  ];
 }

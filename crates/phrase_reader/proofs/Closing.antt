@@ -69,22 +69,22 @@ close_regrouped : (b q opening parts last more : List Token) (token : Token) →
 close_regrouped b q opening parts last more token = simp append_assoc
 
 close_all : (stack : List Frame) (inner : Parts) (before parts last : List Token) (unit : Term) → StackTokens stack before → PartsTokens inner parts → IsUnit last unit → IsViable ((before ++ parts) ++ last)
-close_all [] inner before parts last unit s p u =
-    ( []
-    , whole_with inner unit
-    , let spells : ((before ++ parts) ++ last) ++ [] ≡ parts ++ last = append-nil ((before ++ parts) ++ last) ∙ ap (λ b. (b ++ parts) ++ last) s in
-      subst (λ l. IsBranch l (whole_with inner unit)) (sym spells) (branch_read inner parts last unit p u)
-    )
+close_all [] inner before parts last unit s p u = (
+  [],
+  whole_with inner unit,
+  let spells : ((before ++ parts) ++ last) ++ [] ≡ parts ++ last = append-nil ((before ++ parts) ++ last) ∙ ap (λ b. (b ++ parts) ++ last) s in
+      subst (λ l. IsBranch l (whole_with inner unit)) (sym spells) (branch_read inner parts last unit p u),
+)
 close_all (frame ∷ rest) inner before parts last unit s p u =
     let w = whole_with inner unit in
     let within = closed_read frame.bracket (parts ++ last) w (branch_read inner parts last unit p u) in
-    let outside = close_all rest frame.outer s.0 s.1 (bracket_tokens frame.bracket ++ ((parts ++ last) ++ closing frame.bracket ∷ [])) (bracketed frame.bracket w) s.2 s.3 within in
-    ( closing frame.bracket ∷ outside.0
-    , outside.1
-    , let spells : ((before ++ parts) ++ last) ++ closing frame.bracket ∷ outside.0 ≡ ((s.0 ++ s.1) ++ (bracket_tokens frame.bracket ++ ((parts ++ last) ++ closing frame.bracket ∷ []))) ++ outside.0 =
-        ap (λ b. ((b ++ parts) ++ last) ++ closing frame.bracket ∷ outside.0) s.4
-        ∙ sym (close_regrouped s.0 s.1 (bracket_tokens frame.bracket) parts last outside.0 (closing frame.bracket)) in
-      subst (λ l. IsBranch l outside.1) (sym spells) outside.2
+    let outside = close_all rest frame.outer s.0 s.1 (bracket_tokens frame.bracket ++ ((parts ++ last) ++ closing frame.bracket ∷ [])) (bracketed frame.bracket w) s.2 s.3 within in (
+      closing frame.bracket ∷ outside.0,
+      outside.1,
+      let spells : ((before ++ parts) ++ last) ++ closing frame.bracket ∷ outside.0 ≡ ((s.0 ++ s.1) ++ (bracket_tokens frame.bracket ++ ((parts ++ last) ++ closing frame.bracket ∷ []))) ++ outside.0 =
+          ap (λ b. ((b ++ parts) ++ last) ++ closing frame.bracket ∷ outside.0) s.4
+          ∙ sym (close_regrouped s.0 s.1 (bracket_tokens frame.bracket) parts last outside.0 (closing frame.bracket)) in
+          subst (λ l. IsBranch l outside.1) (sym spells) outside.2,
     )
 
 more_regrouped : (front last more rest : List Token) → (front ++ last) ++ (more ++ rest) ≡ (front ++ (last ++ more)) ++ rest
@@ -96,5 +96,5 @@ state_viable state spelled m =
     let e = end_unit state.stage m.last m.stage_read in
     let v = close_all state.stack state.inner m.before m.parts (m.last ++ e.more) e.unit m.stack_read m.parts_read e.ends in
     let spells : spelled ++ (e.more ++ v.0) ≡ ((m.before ++ m.parts) ++ (m.last ++ e.more)) ++ v.0 =
-      ap (λ s. s ++ (e.more ++ v.0)) m.all ∙ more_regrouped (m.before ++ m.parts) m.last e.more v.0 in
+    ap (λ s. s ++ (e.more ++ v.0)) m.all ∙ more_regrouped (m.before ++ m.parts) m.last e.more v.0 in
     (e.more ++ v.0, v.1, subst (λ l. IsBranch l v.1) (sym spells) v.2)

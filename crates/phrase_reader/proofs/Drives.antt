@@ -81,15 +81,15 @@ from_arms stack spelled ls rs phrase l r op a second spells makes =
       inner = parts_with (Some arm) b.link;
       stage = b.stage;
       runs =
-        ap (run (state_at fresh stack unit_next)) spells
-        ∙ (run_joined (state_at fresh stack unit_next) ls (tokens.Op op ∷ rs) (state_at (parts_with None a.link) stack a.stage) a.runs
-        ∙ (ap (λ o. option_and_then (λ s. run s rs) (option_map (armed (parts_with None a.link) stack op) o)) a.ends
-        ∙ b.runs));
+          ap (run (state_at fresh stack unit_next)) spells
+          ∙ (run_joined (state_at fresh stack unit_next) ls (tokens.Op op ∷ rs) (state_at (parts_with None a.link) stack a.stage) a.runs
+          ∙ (ap (λ o. option_and_then (λ s. run s rs) (option_map (armed (parts_with None a.link) stack op) o)) a.ends
+          ∙ b.runs));
       ends =
-        ap (option_map (whole_with (parts_with (Some arm) b.link))) b.ends
-        ∙ (ap (λ t. Some (joined op t (chain_with b.link b.unit))) a.whole
-        ∙ (ap (λ t. Some (joined op l t)) b.whole
-        ∙ ap Some (sym makes)));
+          ap (option_map (whole_with (parts_with (Some arm) b.link))) b.ends
+          ∙ (ap (λ t. Some (joined op t (chain_with b.link b.unit))) a.whole
+          ∙ (ap (λ t. Some (joined op l t)) b.whole
+          ∙ ap Some (sym makes)));
     }
 
 from_unit : (arm : Option Arm) (stack : List Frame) (spelled : List Token) (phrase : Term) → UnitRun (parts_with arm None) stack spelled phrase → ChainRun arm stack spelled phrase
@@ -110,10 +110,10 @@ from_link arm stack spelled ls rs phrase l r a second spells makes =
       stage = u.stage;
       unit = r;
       runs =
-        ap (run (state_at (parts_with arm None) stack unit_next)) spells
-        ∙ (run_joined (state_at (parts_with arm None) stack unit_next) ls (tokens.Arrow ∷ rs) (state_at (parts_with arm a.link) stack a.stage) a.runs
-        ∙ (ap (λ o. option_and_then (λ s. run s rs) (option_map (linked (parts_with arm a.link) stack) o)) a.ends
-        ∙ u.runs));
+          ap (run (state_at (parts_with arm None) stack unit_next)) spells
+          ∙ (run_joined (state_at (parts_with arm None) stack unit_next) ls (tokens.Arrow ∷ rs) (state_at (parts_with arm a.link) stack a.stage) a.runs
+          ∙ (ap (λ o. option_and_then (λ s. run s rs) (option_map (linked (parts_with arm a.link) stack) o)) a.ends
+          ∙ u.runs));
       ends = u.ends;
       whole = ap (λ t. chain t r) a.whole ∙ sym makes;
     }
@@ -125,9 +125,9 @@ from_brackets inner stack spelled within phrase second spells =
     record {
       stage = ended phrase;
       runs =
-        ap (run (state_at inner stack unit_next)) spells
-        ∙ (run_joined (state_at fresh (frame ∷ stack) unit_next) within (tokens.CloseRound ∷ []) (state_at b.inner (frame ∷ stack) b.stage) b.runs
-        ∙ ap (λ o. option_and_then (λ s. run s []) (round_closed (frame ∷ stack) o)) b.ends);
+          ap (run (state_at inner stack unit_next)) spells
+          ∙ (run_joined (state_at fresh (frame ∷ stack) unit_next) within (tokens.CloseRound ∷ []) (state_at b.inner (frame ∷ stack) b.stage) b.runs
+          ∙ ap (λ o. option_and_then (λ s. run s []) (round_closed (frame ∷ stack) o)) b.ends);
       ends = refl;
     }
 
@@ -138,9 +138,9 @@ from_request inner stack spelled within place phrase body second spells makes =
     record {
       stage = ended (at place body);
       runs =
-        ap (run (state_at inner stack unit_next)) spells
-        ∙ (run_joined (state_at fresh (frame ∷ stack) unit_next) within (tokens.CloseSquare ∷ []) (state_at b.inner (frame ∷ stack) b.stage) b.runs
-        ∙ ap (λ o. option_and_then (λ s. run s []) (square_closed (frame ∷ stack) o)) b.ends);
+          ap (run (state_at inner stack unit_next)) spells
+          ∙ (run_joined (state_at fresh (frame ∷ stack) unit_next) within (tokens.CloseSquare ∷ []) (state_at b.inner (frame ∷ stack) b.stage) b.runs
+          ∙ ap (λ o. option_and_then (λ s. run s []) (square_closed (frame ∷ stack) o)) b.ends);
       ends = ap Some (sym makes);
     }
 

@@ -53,9 +53,9 @@ sign_fits left (byte ∷ rest) =
     (λ l. FitsIn (1 + length (byte ∷ rest)) l)
     (λ _. (omega arith, omega arith))
     (λ _. cond_both (byte == 60 || byte == 126) (after_signs left (byte == 126) rest) (Refused kinds.Char 1)
-      (λ l. FitsIn (1 + length (byte ∷ rest)) l)
-      (λ _. at_room (2 + length rest) (1 + length (byte ∷ rest)) (after_signs left (byte == 126) rest) (omega arith) (signs_fit left (byte == 126) rest))
-      (λ _. omega arith))
+    (λ l. FitsIn (1 + length (byte ∷ rest)) l)
+    (λ _. at_room (2 + length rest) (1 + length (byte ∷ rest)) (after_signs left (byte == 126) rest) (omega arith) (signs_fit left (byte == 126) rest))
+    (λ _. omega arith))
 
 word_fits : (word : List ℕ) (room : ℕ) (r : Result Token Kind) → 1 ≤ length word → length word ≤ room → FitsIn room (word_is word r)
 word_fits word room (Ok token) low high = (low, high)
@@ -81,12 +81,12 @@ front_fits (first ∷ rest) =
     let words : Lexeme = cond (begins_word first) (word_lexeme word) (Refused kinds.Char 0) in
     marked_fits (mark first) room (cond (first == 43 || first == 45) (after_sign (first == 43) rest) words) (omega arith)
     (cond_both (first == 43 || first == 45) (after_sign (first == 43) rest) words
-      (λ l. FitsIn room l)
-      (λ _. at_room (1 + length rest) room (after_sign (first == 43) rest) (omega arith) (sign_fits (first == 43) rest))
-      (λ _. cond_both (begins_word first) (word_lexeme word) (Refused kinds.Char 0)
-        (λ l. FitsIn room l)
-        (λ h. word_fits word room (word_token word) (while_more first rest h) (while_length (first ∷ rest)))
-        (λ _. omega arith)))
+    (λ l. FitsIn room l)
+    (λ _. at_room (1 + length rest) room (after_sign (first == 43) rest) (omega arith) (sign_fits (first == 43) rest))
+    (λ _. cond_both (begins_word first) (word_lexeme word) (Refused kinds.Char 0)
+    (λ l. FitsIn room l)
+    (λ h. word_fits word room (word_token word) (while_more first rest h) (while_length (first ∷ rest)))
+    (λ _. omega arith)))
 
 -- the skipped bytes belong to the token before
 pub found_skip : (skip offset : ℕ) (text : List ℕ) → skip ≤ length text → found offset skip text ≡ found (offset + skip) 0 (drop skip text)
@@ -133,38 +133,38 @@ found_read text offset start blanks len token inside is_blanks is_start e =
     let rest = drop blanks (drop offset text) in
     let fit : FitsIn (length rest) (Read token len) = subst (λ l. FitsIn (length rest) l) e (front_fits rest) in
     let room : length rest ≡ length text - start = length-drop blanks (drop offset text) ∙ (ap (λ n. n - blanks) (length-drop offset text) ∙ omega arith) in
-    let here : drop start text ≡ rest = ap (λ n. drop n text) is_start ∙ sym (drop-drop blanks offset text) in
-    ( found_blanks (drop offset text) offset start (is_start ∙ ap (λ n. offset + n) is_blanks)
-      ∙ (ap (λ n. found_here start (drop n (drop offset text))) (sym is_blanks)
-      ∙ (ap (λ l. found_with start l (λ skip. found (start + 1) skip (drop 1 rest))) e
-      ∙ ap (λ f. token_at start token ∷ f)
-        (found_skip (len - 1) (start + 1) (drop 1 rest) (omega (arith, fit.0, fit.1, length-drop 1 rest))
-        ∙ (ap (λ n. found n 0 (drop (len - 1) (drop 1 rest))) (omega (arith, fit.0))
-        ∙ ap (λ t. found (start + len) 0 t)
+    let here : drop start text ≡ rest = ap (λ n. drop n text) is_start ∙ sym (drop-drop blanks offset text) in (
+      found_blanks (drop offset text) offset start (is_start ∙ ap (λ n. offset + n) is_blanks)
+          ∙ (ap (λ n. found_here start (drop n (drop offset text))) (sym is_blanks)
+          ∙ (ap (λ l. found_with start l (λ skip. found (start + 1) skip (drop 1 rest))) e
+          ∙ ap (λ f. token_at start token ∷ f)
+          (found_skip (len - 1) (start + 1) (drop 1 rest) (omega (arith, fit.0, fit.1, length-drop 1 rest))
+          ∙ (ap (λ n. found n 0 (drop (len - 1) (drop 1 rest))) (omega (arith, fit.0))
+          ∙ ap (λ t. found (start + len) 0 t)
           (drop-drop (len - 1) 1 rest
           ∙ (ap (λ n. drop n rest) (omega (arith, fit.0))
           ∙ (ap (λ t. drop len t) (sym here)
-          ∙ drop-drop len start text)))))))
-    , omega (arith, fit.0, is_start)
-    , omega (arith, fit.0, fit.1, room)
-    , omega (arith, fit.0, fit.1, room)
+          ∙ drop-drop len start text))))))),
+      omega (arith, fit.0, is_start),
+      omega (arith, fit.0, fit.1, room),
+      omega (arith, fit.0, fit.1, room),
     )
 
 pub found_refused : (text : List ℕ) (offset start blanks past : ℕ) (kind : Kind) → offset ≤ length text → blanks ≡ prefix_len is_blank (drop offset text) → start ≡ offset + blanks → blanks ≤ length (drop offset text) → front (drop blanks (drop offset text)) ≡ Refused kind past → (found offset 0 (drop offset text) ≡ refused_at (start + past) kind ∷ []) × (start + past ≤ length text)
 found_refused text offset start blanks past kind inside is_blanks is_start few e =
     let rest = drop blanks (drop offset text) in
-    let fit : FitsIn (length rest) (Refused kind past) = subst (λ l. FitsIn (length rest) l) e (front_fits rest) in
-    ( found_blanks (drop offset text) offset start (is_start ∙ ap (λ n. offset + n) is_blanks)
-      ∙ (ap (λ n. found_here start (drop n (drop offset text))) (sym is_blanks)
-      ∙ ap (λ l. found_with start l (λ skip. found (start + 1) skip (drop 1 rest))) e)
-    , omega (arith, fit, is_start, few, length-drop blanks (drop offset text), length-drop offset text)
+    let fit : FitsIn (length rest) (Refused kind past) = subst (λ l. FitsIn (length rest) l) e (front_fits rest) in (
+      found_blanks (drop offset text) offset start (is_start ∙ ap (λ n. offset + n) is_blanks)
+          ∙ (ap (λ n. found_here start (drop n (drop offset text))) (sym is_blanks)
+          ∙ ap (λ l. found_with start l (λ skip. found (start + 1) skip (drop 1 rest))) e),
+      omega (arith, fit, is_start, few, length-drop blanks (drop offset text), length-drop offset text),
     )
 
 pub found_end : (text : List ℕ) (offset start blanks : ℕ) → offset ≤ length text → blanks ≡ prefix_len is_blank (drop offset text) → start ≡ offset + blanks → blanks ≤ length (drop offset text) → front (drop blanks (drop offset text)) ≡ End → (found offset 0 (drop offset text) ≡ ends_at start ∷ []) × (start ≤ length text)
 found_end text offset start blanks inside is_blanks is_start few e =
-    let rest = drop blanks (drop offset text) in
-    ( found_blanks (drop offset text) offset start (is_start ∙ ap (λ n. offset + n) is_blanks)
-      ∙ (ap (λ n. found_here start (drop n (drop offset text))) (sym is_blanks)
-      ∙ ap (λ l. found_with start l (λ skip. found (start + 1) skip (drop 1 rest))) e)
-    , omega (arith, is_start, few, length-drop offset text)
+    let rest = drop blanks (drop offset text) in (
+      found_blanks (drop offset text) offset start (is_start ∙ ap (λ n. offset + n) is_blanks)
+          ∙ (ap (λ n. found_here start (drop n (drop offset text))) (sym is_blanks)
+          ∙ ap (λ l. found_with start l (λ skip. found (start + 1) skip (drop 1 rest))) e),
+      omega (arith, is_start, few, length-drop offset text),
     )

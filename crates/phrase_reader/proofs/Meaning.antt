@@ -190,10 +190,10 @@ opened_means inner stack bracket token spelled before parts last stack_read part
   parts_read = fresh_tokens;
   stage_read = refl;
   all =
-    ap (λ s. s ++ token ∷ []) all
-    ∙ (append_assoc (before ++ parts) last (token ∷ [])
-    ∙ (ap (λ l. (before ++ parts) ++ l) e
-    ∙ sym (append-nil (((before ++ parts) ++ bracket_tokens bracket) ++ []) ∙ append-nil ((before ++ parts) ++ bracket_tokens bracket))));
+      ap (λ s. s ++ token ∷ []) all
+      ∙ (append_assoc (before ++ parts) last (token ∷ [])
+      ∙ (ap (λ l. (before ++ parts) ++ l) e
+      ∙ sym (append-nil (((before ++ parts) ++ bracket_tokens bracket) ++ []) ∙ append-nil ((before ++ parts) ++ bracket_tokens bracket))));
 }
 
 round_opened_means : (stage : Stage) (inner : Parts) (stack : List Frame) (next : State) (spelled : List Token) → Means inner stack stage spelled → round_opened stage (state_at inner stack stage) ≡ Some next → StateMeans next (spelled ++ tokens.OpenRound ∷ [])
@@ -238,8 +238,8 @@ closed_means inner frame rest stage unit spelled m e =
       parts_read = outside.3;
       stage_read = closed_read frame.bracket (m.parts ++ m.last) (whole_with inner unit) b;
       all =
-        ap (λ s. s ++ closing frame.bracket ∷ []) (m.all ∙ ap (λ s. (s ++ m.parts) ++ m.last) outside.4)
-        ∙ regrouped outside.0 outside.1 (bracket_tokens frame.bracket) m.parts m.last (closing frame.bracket);
+          ap (λ s. s ++ closing frame.bracket ∷ []) (m.all ∙ ap (λ s. (s ++ m.parts) ++ m.last) outside.4)
+          ∙ regrouped outside.0 outside.1 (bracket_tokens frame.bracket) m.parts m.last (closing frame.bracket);
     }
 
 round_closed_means : (stack : List Frame) (inner : Parts) (stage : Stage) (o : Option Term) (next : State) (spelled : List Token) → Means inner stack stage spelled → unit_of stage ≡ o → round_closed stack (option_map (whole_with inner) o) ≡ Some next → StateMeans next (spelled ++ tokens.CloseRound ∷ [])

@@ -127,10 +127,10 @@ first_only before next rest place kind q k b one (inr more) = absurd (more.0 pla
 
 -- one rule that the next breaks, and no other, is the refusal of the text, and the only one
 settled : (text : List ℕ) (offset : ℕ) (state : State) (events : ℕ) (next : Found) (rest : List Found) (place : ℕ) (kind : Kind) (p : Progress text offset state events) → found offset 0 (drop offset text) ≡ next ∷ rest → Breaks p.before next place kind → ((q : ℕ) (k : Kind) → Breaks p.before next q k → (place ≡ q) × (kind ≡ k)) → (q : ℕ) (k : Kind) → Refuses [] (found 0 0 text) q k ↔ ((place ≡ q) × (kind ≡ k))
-settled text offset state events next rest place kind p f b one q k =
-    ( λ g. first_only p.before next rest place kind q k b one (subst (λ l. Refuses p.before l q k) f (p.back q k g))
-    , λ e. subst (λ m. Refuses [] (found 0 0 text) m k) e.0 (subst (λ m. Refuses [] (found 0 0 text) place m) e.1 (p.onward place kind (subst (λ l. Refuses p.before l place kind) (sym f) (inl b))))
-    )
+settled text offset state events next rest place kind p f b one q k = (
+  λ g. first_only p.before next rest place kind q k b one (subst (λ l. Refuses p.before l q k) f (p.back q k g)),
+  λ e. subst (λ m. Refuses [] (found 0 0 text) m k) e.0 (subst (λ m. Refuses [] (found 0 0 text) place m) e.1 (p.onward place kind (subst (λ l. Refuses p.before l place kind) (sym f) (inl b)))),
+)
 
 pub progress_stops : (text : List ℕ) (offset : ℕ) (state : State) (events : ℕ) (token : Token) (place : ℕ) (rest : List Found) (kind : Kind) → Progress text offset state events → found offset 0 (drop offset text) ≡ token_at place token ∷ rest → verdict state events token ≡ Some kind → (q : ℕ) (k : Kind) → Refuses [] (found 0 0 text) q k ↔ ((place ≡ q) × (kind ≡ k))
 progress_stops text offset state events token place rest kind p f v =
@@ -156,13 +156,13 @@ ended_whole before place q k w (inr more) = more.1
 pub progress_finished : (text : List ℕ) (offset : ℕ) (state : State) (events : ℕ) (place : ℕ) (phrase : Phrase) → Progress text offset state events → found offset 0 (drop offset text) ≡ ends_at place ∷ [] → finished state ≡ Some (term phrase) → Reads (Ok phrase) (found 0 0 text)
 progress_finished text offset state events place phrase p f h =
     let d = phrase_whole p.before state (term phrase) p.reached h in
-    let same : p.before ≡ tokens_of (found 0 0 text) = sym (append-nil p.before) ∙ (ap (λ l. p.before ++ tokens_of l) (sym f) ∙ p.spelled) in
-    ( spelled_sized p.before (term phrase) d (omega (arith, p.counted, p.few)) p.within
-    , λ q k g. ended_whole p.before place q k (term phrase, d) (subst (λ l. Refuses p.before l q k) f (p.back q k g))
-    , λ t.
-        ( λ b. some_same (term phrase) t (sym h ∙ whole_phrase p.before state t p.reached (subst (λ l. IsBranch l t) (sym same) b))
-        , λ e. subst (λ l. IsBranch l t) same (subst (λ u. IsBranch p.before u) e d)
-        )
+    let same : p.before ≡ tokens_of (found 0 0 text) = sym (append-nil p.before) ∙ (ap (λ l. p.before ++ tokens_of l) (sym f) ∙ p.spelled) in (
+      spelled_sized p.before (term phrase) d (omega (arith, p.counted, p.few)) p.within,
+      λ q k g. ended_whole p.before place q k (term phrase, d) (subst (λ l. Refuses p.before l q k) f (p.back q k g)),
+      λ t. (
+        λ b. some_same (term phrase) t (sym h ∙ whole_phrase p.before state t p.reached (subst (λ l. IsBranch l t) (sym same) b)),
+        λ e. subst (λ l. IsBranch l t) same (subst (λ u. IsBranch p.before u) e d),
+      ),
     )
 
 -- the answer at the end of the text
@@ -170,20 +170,20 @@ pub progress_ends : (text : List ℕ) (offset : ℕ) (state : State) (events : �
 progress_ends text offset state events place (Ok phrase) p f h = progress_finished text offset state events place phrase p f h
 progress_ends text offset state events place (Err (Refused other kind)) p f h =
     let u = progress_unfinished text offset state events place p f h.2 in
-    λ q k.
-      ( λ g. let e = (u q k).0 g in (h.0 ∙ e.0, h.1 ∙ e.1)
-      , λ e. (u q k).1 (sym h.0 ∙ e.0, sym h.1 ∙ e.1)
-      )
+    λ q k. (
+      λ g. let e = (u q k).0 g in (h.0 ∙ e.0, h.1 ∙ e.1),
+      λ e. (u q k).1 (sym h.0 ∙ e.0, sym h.1 ∙ e.1),
+    )
 progress_ends text offset state events place (Err NoMemory) p f h = tt
 
 -- the answer to a token that the reader did not take
 pub progress_rejects : (text : List ℕ) (offset : ℕ) (state : State) (events : ℕ) (token : Token) (place : ℕ) (rest : List Found) (error : ReadError) → Progress text offset state events → found offset 0 (drop offset text) ≡ token_at place token ∷ rest → Accepts state events token place (Err error) → Reads (Err error) (found 0 0 text)
 progress_rejects text offset state events token place rest (Refused other kind) p f h =
     let u = progress_stops text offset state events token place rest kind p f h.1 in
-    λ q k.
-      ( λ g. let e = (u q k).0 g in (h.0 ∙ e.0, e.1)
-      , λ e. (u q k).1 (sym h.0 ∙ e.0, e.1)
-      )
+    λ q k. (
+      λ g. let e = (u q k).0 g in (h.0 ∙ e.0, e.1),
+      λ e. (u q k).1 (sym h.0 ∙ e.0, e.1),
+    )
 progress_rejects text offset state events token place rest NoMemory p f h = tt
 
 pub too_long_found : (text : List ℕ) → 65536 < length text → (phrase : Term) → (⊥ → IsRead text phrase) × (IsRead text phrase → ⊥)
@@ -195,13 +195,13 @@ few_refused text place kind few (inl long) = absurd (omega (arith, long.0))
 few_refused text place kind few (inr more) = more.1
 
 pub read_found : (text : List ℕ) (r : Result Phrase ReadError) → length text ≤ 65536 → Reads r (found 0 0 text) → (phrase : Term) → UnlessNoMemory r (AnswersWith r phrase ↔ IsRead text phrase)
-read_found text (Ok phrase) few h spelled =
-    ( λ e. record {
-        accepted = λ q k g. h.1 q k (few_refused text q k few g);
-        spelled = (h.2 spelled).1 e;
-      }
-    , λ i. (h.2 spelled).0 i.spelled
-    )
+read_found text (Ok phrase) few h spelled = (
+  λ e. record {
+    accepted = λ q k g. h.1 q k (few_refused text q k few g);
+    spelled = (h.2 spelled).1 e;
+  },
+  λ i. (h.2 spelled).0 i.spelled,
+)
 read_found text (Err (Refused place kind)) few h spelled =
     (λ b. absurd b, λ i. i.accepted place kind (inr (few, (h place kind).1 (refl, refl))))
 read_found text (Err NoMemory) few h spelled = tt
@@ -218,8 +218,8 @@ refusal_same place q kind k e = cc
 pub read_refused : (text : List ℕ) (r : Result Phrase ReadError) → length text ≤ 65536 → Reads r (found 0 0 text) → (place : ℕ) (kind : Kind) → UnlessNoMemory r ((r ≡ Err (Refused place kind)) ↔ IsRefusal text place kind)
 read_refused text (Ok phrase) few h q k =
     (λ e. cc, λ g. absurd (h.1 q k (few_refused text q k few g)))
-read_refused text (Err (Refused place kind)) few h q k =
-    ( λ e. inr (few, (h q k).1 (same_refusal place q kind k e))
-    , λ g. refusal_same place q kind k ((h q k).0 (few_refused text q k few g))
-    )
+read_refused text (Err (Refused place kind)) few h q k = (
+  λ e. inr (few, (h q k).1 (same_refusal place q kind k e)),
+  λ g. refusal_same place q kind k ((h q k).0 (few_refused text q k few g)),
+)
 read_refused text (Err NoMemory) few h q k = tt

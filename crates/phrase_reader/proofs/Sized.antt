@@ -53,10 +53,10 @@ two_count ls rs token m n k l r o c e = record {
 }
 
 within_count : (within : List Token) (token : Token) (n : ℕ) → Counts within n → closed_in (token ∷ []) ≡ 1 → opened_in (token ∷ []) ≡ 0 → token_events token ≡ 0 → (events_in (within ++ token ∷ []) ≡ n) × (opened_in (within ++ token ∷ []) + 1 ≡ closed_in (within ++ token ∷ []))
-within_count within token n w c o e =
-    ( omega (arith, w.counted, events_joined within (token ∷ []))
-    , omega (arith, w.balanced, opened_joined within (token ∷ []), closed_joined within (token ∷ []))
-    )
+within_count within token n w c o e = (
+  omega (arith, w.counted, events_joined within (token ∷ [])),
+  omega (arith, w.balanced, opened_joined within (token ∷ []), closed_joined within (token ∷ [])),
+)
 
 counts_at : (spelled other : List Token) (m n : ℕ) → spelled ≡ other → n ≡ m → Counts other m → Counts spelled n
 counts_at spelled other m n e f c = record {
@@ -162,23 +162,23 @@ mutual
   branch_depth : {spelled : List Token} {phrase : Term} → IsBranch spelled phrase → (limit base : ℕ) → Within limit base spelled → base + depth phrase ≤ limit
   branch_depth {spelled} {phrase} (alone only) limit base w = omega (arith, chain_depth only limit base w)
   branch_depth {spelled} {phrase} (branches ls rs l r op left right spells makes) limit base w =
-      omega
-      ( arith
-      , ap depth makes
-      , joined_depth op l r
-      , chain_depth left limit base (within_left limit base spelled ls (tokens.Op op ∷ rs) spells w)
-      , chain_depth right limit base (within_right limit base spelled ls rs (tokens.Op op) spells (chain_counts left).balanced refl refl w)
+      omega (
+        arith,
+        ap depth makes,
+        joined_depth op l r,
+        chain_depth left limit base (within_left limit base spelled ls (tokens.Op op ∷ rs) spells w),
+        chain_depth right limit base (within_right limit base spelled ls rs (tokens.Op op) spells (chain_counts left).balanced refl refl w),
       )
 
   chain_depth : {spelled : List Token} {phrase : Term} → IsChain spelled phrase → (limit base : ℕ) → Within limit base spelled → base + as_arm phrase ≤ limit
   chain_depth {spelled} {phrase} (single unit) limit base w =
       omega (arith, unit_depth unit limit base w, or_more (is_branch phrase) (is_chain phrase))
   chain_depth {spelled} {phrase} (links ls rs l r left right spells makes) limit base w =
-      omega
-      ( arith
-      , ap as_arm makes
-      , chain_depth left limit base (within_left limit base spelled ls (tokens.Arrow ∷ rs) spells w)
-      , unit_depth right limit base (within_right limit base spelled ls rs tokens.Arrow spells (chain_counts left).balanced refl refl w)
+      omega (
+        arith,
+        ap as_arm makes,
+        chain_depth left limit base (within_left limit base spelled ls (tokens.Arrow ∷ rs) spells w),
+        unit_depth right limit base (within_right limit base spelled ls rs tokens.Arrow spells (chain_counts left).balanced refl refl w),
       )
 
   unit_depth : {spelled : List Token} {phrase : Term} → IsUnit spelled phrase → (limit base : ℕ) → Within limit base spelled → base + as_right phrase ≤ limit

@@ -31,8 +31,8 @@ not_viable : (before : List Token) (state : State) (token : Token) → Reached b
 not_viable before state token r h v =
     let w = whole_runs ((before ++ token ∷ []) ++ v.0) v.1 v.2 in
     let e : run start ((before ++ token ∷ []) ++ v.0) ≡ None =
-      ap (run start) (append_assoc before (token ∷ []) v.0)
-      ∙ (run_joined start before (token ∷ v.0) state r.runs ∙ ap (option_and_then (λ s. run s v.0)) h) in
+    ap (run start) (append_assoc before (token ∷ []) v.0)
+    ∙ (run_joined start before (token ∷ v.0) state r.runs ∙ ap (option_and_then (λ s. run s v.0)) h) in
     let f : Some w.0 ≡ None = sym w.1 ∙ e in
     cc
 
@@ -159,7 +159,7 @@ rule_verdict before state token TooDeep r b =
     let next = reached_next before state token f.0 r f.1 in
     verdict_fits state (events_in before) token f.0 f.1
     ∙ ap (λ l. limited l (events_in before + token_events token))
-      (deep_limit state token f.0 f.1 (omega (arith, b.1, open_height before state r.runs)) (omega (arith, b.2, open_height (before ++ token ∷ []) f.0 next.runs)))
+    (deep_limit state token f.0 f.1 (omega (arith, b.1, open_height before state r.runs)) (omega (arith, b.2, open_height (before ++ token ∷ []) f.0 next.runs)))
 rule_verdict before state token TooManyEvents r b =
     let f = fits before state token r b.0 in
     verdict_fits state (events_in before) token f.0 f.1
@@ -193,19 +193,19 @@ opened_rule : (before : List Token) (state : State) (token : Token) (next : Stat
 opened_rule before state token next kind r h up low e =
     let c = chosen (nat_le 64 (length state.stack)) TooDeep kind e in
     let after = reached_next before state token next r h in
-    rule_at before token TooDeep kind c.1
-    ( viable before state token next r h
-    , omega (arith, low, open_height before state r.runs)
-    , omega (arith, up, leb-true 64 (length state.stack) c.0, open_height (before ++ token ∷ []) next after.runs)
+    rule_at before token TooDeep kind c.1 (
+      viable before state token next r h,
+      omega (arith, low, open_height before state r.runs),
+      omega (arith, up, leb-true 64 (length state.stack) c.0, open_height (before ++ token ∷ []) next after.runs),
     )
 
 limit_rule : (before : List Token) (state : State) (token : Token) (next : State) (kind : Kind) → Reached before state → step state token ≡ Some next → height state ≤ 64 → limit state token ≡ Some kind → BreaksRule before token kind
 limit_rule before s (tokens.Value value) next kind r h low e =
     let m = reached_means before s r in
     let f = many_rule s.stage kind m.last e m.stage_read in
-    rule_at before (tokens.Value value) TooManyArgs kind f.0
-    ( viable before s (tokens.Value value) next r h
-    , (value, refl, m.before ++ m.parts, f.1, f.2, f.3, m.all ∙ ap (λ l. (m.before ++ m.parts) ++ l) f.4)
+    rule_at before (tokens.Value value) TooManyArgs kind f.0 (
+      viable before s (tokens.Value value) next r h,
+      (value, refl, m.before ++ m.parts, f.1, f.2, f.3, m.all ∙ ap (λ l. (m.before ++ m.parts) ++ l) f.4),
     )
 limit_rule before s tokens.OpenRound next kind r h low e =
     opened_rule before s tokens.OpenRound next kind r h (omega (arith, step_height s tokens.OpenRound next h)) low e
@@ -223,10 +223,10 @@ limit_rule before s (tokens.Op op) next kind r h low e = cc
 limits_rule : (before : List Token) (state : State) (token : Token) (next : State) (kind : Kind) (o : Option Kind) → Reached before state → step state token ≡ Some next → height state ≤ 64 → events_in before ≤ 1024 → limit state token ≡ o → limited o (events_in before + token_events token) ≡ Some kind → BreaksRule before token kind
 limits_rule before state token next kind None r h low few l e =
     let c = chosen (nat_lt 1024 (events_in before + token_events token)) TooManyEvents kind e in
-    rule_at before token TooManyEvents kind c.1
-    ( viable before state token next r h
-    , few
-    , omega (arith, ltb-true 1024 (events_in before + token_events token) c.0, events_joined before (token ∷ []))
+    rule_at before token TooManyEvents kind c.1 (
+      viable before state token next r h,
+      few,
+      omega (arith, ltb-true 1024 (events_in before + token_events token) c.0, events_joined before (token ∷ [])),
     )
 limits_rule before state token next kind (Some rule) r h low few l e =
     limit_rule before state token next kind r h low (l ∙ e)

@@ -45,8 +45,8 @@ decimal_from value (digit ∷ rest) = decimal_from (10 * value + (digit - 48)) r
 unfoldable pub decimal_token : List ℕ → Result Token Kind
 decimal_token word =
     if nat_le (decimal_from 0 word) 4294967295
-      then Ok (tokens.Value (Number (decimal_from 0 word)))
-      else Err kinds.NumberTooLarge
+    then Ok (tokens.Value (Number (decimal_from 0 word)))
+    else Err kinds.NumberTooLarge
 
 -- the token that a whole word is: one of the five keywords, a name or a decimal
 abbrev pub word_token : List ℕ → Result Token Kind
@@ -72,8 +72,8 @@ abbrev pub after_signs : Bool → Bool → List ℕ → Lexeme
 after_signs left parallel [] = Refused kinds.Char 2
 after_signs left parallel (byte ∷ rest) =
     if byte == 43 || byte == 45
-      then Read (tokens.Op (record { parallel = parallel; split = record { left = left; right = byte == 43 } })) 3
-      else Refused kinds.Char 2
+    then Read (tokens.Op (record { parallel = parallel; split = record { left = left; right = byte == 43 } })) 3
+    else Refused kinds.Char 2
 
 -- what follows a sign, `+` or not: the rest of an arrow or of an op
 abbrev pub after_sign : Bool → List ℕ → Lexeme
@@ -125,8 +125,8 @@ found at skip [] = ends_at at ∷ []
 found at (suc skip) (byte ∷ rest) = found (at + 1) skip rest
 found at zero (byte ∷ rest) =
     elim (is_blank byte) [
-      true ↦ found (at + 1) 0 rest
-    | false ↦ found_with at (front (byte ∷ rest)) (λ skip. found (at + 1) skip rest)
+      | true ↦ found (at + 1) 0 rest
+      | false ↦ found_with at (front (byte ∷ rest)) (λ skip. found (at + 1) skip rest)
     ]
 
 abbrev pub tokens_of : List Found → List Token

@@ -46,7 +46,9 @@ pub fn blanks(text: &[u8]) -> usize
 fn word_len(text: &[u8]) -> usize
     ensures { result ≡ prefix_len continues_word text.now }
 {
-    text.iter().take_while(|byte| continues_word(**byte)).count()
+    text.iter()
+        .take_while(|byte| continues_word(**byte))
+        .count()
 }
 
 fn are_digits(word: &[u8]) -> bool

@@ -2,7 +2,6 @@ ghost use Rattle.std.specs.Prelude.{◌≡◌, ◌∷◌, [], None, Some, IfOk, 
 ghost use Rattle.phrase_tree.specs.Term.{term};
 ghost use Rattle.phrase_reader.specs.Grammar.{measurement, joined, leaf};
 ghost use Rattle.phrase_reader.specs.Machine.{start, fresh, chain_with, branch_with, whole_with, unit_of, branch_of, finished, begun, step, limit, parts_of, arm_of, frame_of, stage_of, state_of, frames_on, args_full, too_many, too_deep, valued, with_name, named, inside, left_behind, bracketed, round_opened, square_opened, round_closed, square_closed, linked, armed, branched, Gives, GivesStage};
-
 ghost use Rattle.phrase_reader.specs.declared.state.Stage.TheVariants as stages;
 ghost use Rattle.phrase_reader.specs.declared.token.Token.TheVariants as tokens;
 
@@ -82,10 +81,7 @@ fn chained(alloc: Global, link: Option<Phrase>, unit: Phrase) -> Result<Phrase, 
 {
     match link {
         None => Ok(unit),
-        Some(left) => Ok(Phrase::Then(
-            Box::new(alloc, left)?,
-            Box::new(alloc, unit)?,
-        )),
+        Some(left) => Ok(Phrase::Then(Box::new(alloc, left)?, Box::new(alloc, unit)?)),
     }
 }
 
@@ -128,7 +124,8 @@ impl Stage {
             Stage::Measured(None, asp) => Some(Phrase::Usm(asp)),
             Stage::Measured(Some(target), asp) => Some(Phrase::Kim(target, asp)),
             Stage::Ended(unit) => Some(unit),
-            Stage::Unit | Stage::Place | Stage::Square(_) | Stage::Target | Stage::Service(_) => None,
+            Stage::Unit | Stage::Place | Stage::Square(_) | Stage::Target | Stage::Service(_) =>
+                None,
         }
     }
 
@@ -138,7 +135,8 @@ impl Stage {
     {
         match self {
             Stage::Measured(_, _) | Stage::Ended(_) => true,
-            Stage::Unit | Stage::Place | Stage::Square(_) | Stage::Target | Stage::Service(_) => false,
+            Stage::Unit | Stage::Place | Stage::Square(_) | Stage::Target | Stage::Service(_) =>
+                false,
         }
     }
 }
@@ -158,8 +156,16 @@ fn with_name(stage: &Stage, name: Name) -> Result<Stage, Stop>
     match stage {
         Stage::Place => Ok(Stage::Square(name)),
         Stage::Target => Ok(Stage::Service(Some(name))),
-        Stage::Service(target) => Ok(Stage::Measured(*target, Asp { name, args: Args::none() })),
-        Stage::Unit | Stage::Square(_) | Stage::Measured(_, _) | Stage::Ended(_) => Err(Stop::Unfit),
+        Stage::Service(target) => Ok(Stage::Measured(
+            *target,
+            Asp {
+                name,
+                args: Args::none(),
+            },
+        )),
+        Stage::Unit | Stage::Square(_) | Stage::Measured(_, _) | Stage::Ended(_) => Err(
+            Stop::Unfit,
+        ),
     }
 }
 
@@ -211,7 +217,13 @@ fn enter(inner: Parts, mut frames: Vec<Frame>, bracket: Bracket) -> Result<State
     }
 }
 
-fn leave(alloc: Global, inner: Parts, unit: Phrase, frame: Frame, frames: Vec<Frame>) -> Result<State, Stop>
+fn leave(
+    alloc: Global,
+    inner: Parts,
+    unit: Phrase,
+    frame: Frame,
+    frames: Vec<Frame>,
+) -> Result<State, Stop>
     ensures { Gives result (Some (left_behind (frame_of frame) (frames_on [] frames.items) (whole_with (parts_of inner) (term unit)))) None }
 {
     let Ok(phrase) = branch(alloc, inner, unit) else {
@@ -271,7 +283,11 @@ impl State {
     fn open_square(self) -> Result<State, Stop>
         ensures { Gives result (step (state_of self) tokens.OpenSquare) (limit (state_of self) tokens.OpenSquare) }
     {
-        let State { inner, frames, stage } = self;
+        let State {
+            inner,
+            frames,
+            stage,
+        } = self;
         match stage {
             Stage::Square(place) => enter(inner, frames, Bracket::Square(place)),
             _ => Err(Stop::Unfit),
@@ -282,7 +298,11 @@ impl State {
     fn close_round(self, alloc: Global) -> Result<State, Stop>
         ensures { Gives result (step (state_of self) tokens.CloseRound) (limit (state_of self) tokens.CloseRound) }
     {
-        let State { inner, mut frames, stage } = self;
+        let State {
+            inner,
+            mut frames,
+            stage,
+        } = self;
         let Some(frame) = frames.pop() else {
             return Err(Stop::Unfit);
         };
@@ -299,7 +319,11 @@ impl State {
     fn close_square(self, alloc: Global) -> Result<State, Stop>
         ensures { Gives result (step (state_of self) tokens.CloseSquare) (limit (state_of self) tokens.CloseSquare) }
     {
-        let State { inner, mut frames, stage } = self;
+        let State {
+            inner,
+            mut frames,
+            stage,
+        } = self;
         let Some(frame) = frames.pop() else {
             return Err(Stop::Unfit);
         };
@@ -315,7 +339,11 @@ impl State {
     fn arrow(self, alloc: Global) -> Result<State, Stop>
         ensures { Gives result (step (state_of self) tokens.Arrow) (limit (state_of self) tokens.Arrow) }
     {
-        let State { inner, frames, stage } = self;
+        let State {
+            inner,
+            frames,
+            stage,
+        } = self;
         let Some(unit) = stage.unit() else {
             return Err(Stop::Unfit);
         };
@@ -335,7 +363,11 @@ impl State {
     fn op(self, alloc: Global, op: Op) -> Result<State, Stop>
         ensures { Gives result (step (state_of self) (tokens.Op op)) (limit (state_of self) (tokens.Op op)) }
     {
-        let State { inner, frames, stage } = self;
+        let State {
+            inner,
+            frames,
+            stage,
+        } = self;
         let Parts { arm: None, link } = inner else {
             return Err(Stop::Unfit);
         };
@@ -358,9 +390,17 @@ impl State {
     fn value(self, value: Arg) -> Result<State, Stop>
         ensures { Gives result (step (state_of self) (tokens.Value value)) (limit (state_of self) (tokens.Value value)) }
     {
-        let State { inner, frames, stage } = self;
+        let State {
+            inner,
+            frames,
+            stage,
+        } = self;
         match valued(stage, value) {
-            Ok(stage) => Ok(State { inner, frames, stage }),
+            Ok(stage) => Ok(State {
+                inner,
+                frames,
+                stage,
+            }),
             Err(stop) => Err(stop),
         }
     }
@@ -394,7 +434,11 @@ impl State {
         if !self.is_finished() {
             return Ok(None);
         }
-        let State { inner, frames: _, stage } = self;
+        let State {
+            inner,
+            frames: _,
+            stage,
+        } = self;
         match stage.unit() {
             Some(unit) => Ok(Some(branch(alloc, inner, unit)?)),
             None => Ok(None),

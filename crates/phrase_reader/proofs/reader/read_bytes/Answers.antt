@@ -25,9 +25,9 @@ tokens-preserved c = record {
   inside = c.in-Token.ensures.3;
   ready = c.in-Ok.ensures.4;
   progress =
-    progress_next c.args.text.now c.tokens.offset (state_of c.tokens.reader.state) c.tokens.reader.events
-    c.in-Token.token c.in-Token.start c.in-Token.next (state_of c.in-Ok.after.state) c.in-Ok.after.events
-    c.tokens.invariant.progress c.in-Token.ensures.0 c.in-Ok.ensures.0 c.in-Ok.ensures.1 c.in-Ok.ensures.2 c.in-Ok.ensures.3;
+      progress_next c.args.text.now c.tokens.offset (state_of c.tokens.reader.state) c.tokens.reader.events
+      c.in-Token.token c.in-Token.start c.in-Token.next (state_of c.in-Ok.after.state) c.in-Ok.after.events
+      c.tokens.invariant.progress c.in-Token.ensures.0 c.in-Ok.ensures.0 c.in-Ok.ensures.1 c.in-Ok.ensures.2 c.in-Ok.ensures.3;
 }
 
 pub returns-in-End : goal.returns-in-End
