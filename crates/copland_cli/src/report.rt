@@ -10,12 +10,12 @@ use itoa::Buffer;
 use phrase_tree::NoMemory;
 
 /// Appends the lines of a session's record.
-pub fn push_record(text: &mut Vec<u8>, session: u32, record: &Record) -> Result<(), NoMemory>
-    ensures { OnOk result (text.new.items ≡ text.old.items ++ record_text session (recorded record.now)) }
+pub fn push_record(text: &mut Vec<u8>, session: u32, found: &Record) -> Result<(), NoMemory>
+    ensures { OnOk result (text.new.items ≡ text.old.items ++ record_text session (recorded found.now)) }
 {
     text.extend_from_slice(b"session ")?;
     push_number(text, session)?;
-    match record {
+    match found {
         Record::Done(done) => push_done(text, done),
         Record::Failed(failed) => push_failed(text, failed),
     }
