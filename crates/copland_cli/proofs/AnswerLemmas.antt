@@ -1,32 +1,51 @@
 -- From what was decided and written to the answers of the program.
-use Rattle.std.proofs.Common.{◌≡◌, ◌≢◌, ◌<◌, ◌≤◌, ◌+◌, ℕ, Bool, true, false, List, [], ◌++◌, length, refl, sym, ap, ◌∙◌, inl, inr, arith, subst, length-append}
+use Rattle.std.proofs.Common.{◌≡◌, ◌≤◌, ℕ, Bool, false, List, [], ◌++◌, length, refl, sym, ap, ◌∙◌, inl, inr, arith, subst, length-append}
 use Rattle.std.proofs.lemmas.List.{append-nil}
-use Rattle.std.specs.Prelude.{◌⊎◌, Option, None, Some}
+use Rattle.std.specs.Prelude.{Option, None, Some}
 use Rattle.byte_ports.specs.Port.{Gave, IsAtEnd}
 use Rattle.bench_trait.specs.declared.ask.Ask.{Ask}
 use Rattle.bench_trait.specs.declared.bench.BenchFault.{BenchFault}
+use Rattle.phrase_tree.specs.Term.{Term}
+use Rattle.phrase_tree.specs.Events.{events_of}
+use Rattle.bench_trait.specs.Asking.{questions_of, question_among}
 use Rattle.session_model.specs.Session.{Session}
+use Rattle.session_model.specs.Record.{Record, done, failed, IsRisingRecord}
+use Rattle.copland_cli.specs.FirstForm.{IsPlain}
 use Rattle.copland_cli.specs.Answer.{ComesAt, IsAnswer, IsUndisturbed, Told, Walks, WritesLine}
 use Rattle.copland_cli.specs.Concluded.{IsConcluded, reported_status}
 use Rattle.copland_cli.specs.Finding.{Finding, IsFinding, no_json, no_first_form, first_job}
-use Rattle.copland_cli.specs.Outcome.{IsDecided, IsReportOf, IsWalk}
+use Rattle.copland_cli.specs.Outcome.{is_failed, IsDecided, IsReportOf, IsWalk}
 use Rattle.copland_cli.specs.Refusal.{status_of}
-use Rattle.copland_cli.specs.Run.{Port, Failed, IsBadWords, IsBuilt, IsInput, IsTooLong, IsUnbuilt, IsUnread, IsWithin, input_limit}
+use Rattle.copland_cli.specs.Run.{Port, IsBadWords, IsBuilt, IsInput, IsTooLong, input_limit}
 use Rattle.copland_cli.specs.declared.outcome.Outcome.{Outcome}
 use Rattle.copland_cli.specs.declared.outcome.Outcome.TheVariants.{Refused, Reported}
 use Rattle.copland_cli.specs.declared.refusal.Refusal.{Refusal}
 use Rattle.copland_cli.specs.declared.refusal.Refusal.TheVariants as refusal
 use Rattle.copland_cli.specs.declared.status.Status.{Status}
-use Rattle.copland_cli.specs.declared.status.Status.TheVariants.{Good, SomeFailed, BadWords, ReadFault, TooLong, NotJson, WriteFault, NoMemory, Unbuilt}
+use Rattle.copland_cli.specs.declared.status.Status.TheVariants.{Good, BadWords, ReadFault, TooLong, NotJson, WriteFault, NoMemory, Unbuilt}
+use Rattle.copland_cli.proofs.FormLemmas.{first_form-plain}
 use Rattle.copland_cli.proofs.WordLemmas.{built-bad, built-unbuilt, bad-unbuilt}
 
 -- ---- the cause of each answer
 
-reported_walk : (Gives : Ask → List ℕ → Type 0) (Fails : Ask → BenchFault → Type 0) (source sink : Port) (bytes text : List ℕ) (some_failed : Bool) → IsInput source bytes → IsReportOf Gives Fails bytes text some_failed → IsConcluded sink (Reported (record { text = text; some_failed = some_failed })) (reported_status some_failed) → Walks Gives Fails source sink (reported_status some_failed)
-reported_walk Gives Fails source sink bytes text true input report (inl done) = (bytes, text, input, report, done.1)
-reported_walk Gives Fails source sink bytes text false input report (inl done) = (bytes, text, input, report, done.1)
-reported_walk Gives Fails source sink bytes text true input report (inr fault) = absurd (let e = fault.0 in cc)
-reported_walk Gives Fails source sink bytes text false input report (inr fault) = absurd (let e = fault.0 in cc)
+-- a session whose phrase measures nothing can't fail
+never_failed : (Gives : Ask → List ℕ → Type 0) (Fails : Ask → BenchFault → Type 0) (job : Session) (found : Record) → IsPlain job.phrase → ((keys : List (List ℕ × List ℕ)) → IsRisingRecord Gives Fails job keys found) → is_failed found ≡ false
+never_failed Gives Fails job (done trace answers bundle) plain right = refl
+never_failed Gives Fails job (failed event fault trace) plain right =
+    let asked = (right []).asked in
+    absurd (let none : None ≡ Some asked.0 = subst (λ (phrase : Term). question_among (questions_of job.nonce (events_of phrase job.root 0)) event ≡ Some asked.0) plain asked.1 in cc)
+
+none_failed : (Gives : Ask → List ℕ → Type 0) (Fails : Ask → BenchFault → Type 0) (bytes text : List ℕ) (some_failed : Bool) → IsReportOf Gives Fails bytes text some_failed → some_failed ≡ false
+none_failed Gives Fails bytes text some_failed report =
+    report.failures ∙ never_failed Gives Fails report.job report.found (first_form-plain report.read.1.0 report.job report.read.1.2) report.right
+
+reported_good : (Gives : Ask → List ℕ → Type 0) (Fails : Ask → BenchFault → Type 0) (bytes text : List ℕ) (some_failed : Bool) (status : Status) → IsReportOf Gives Fails bytes text some_failed → status ≡ reported_status some_failed → status ≡ Good
+reported_good Gives Fails bytes text some_failed status report is =
+    is ∙ ap (λ failed. reported_status failed) (none_failed Gives Fails bytes text some_failed report)
+
+as_good : (Gives : Ask → List ℕ → Type 0) (Fails : Ask → BenchFault → Type 0) (bytes text : List ℕ) (some_failed : Bool) → IsReportOf Gives Fails bytes text some_failed → IsReportOf Gives Fails bytes text false
+as_good Gives Fails bytes text some_failed report =
+    subst (λ (failed : Bool). IsReportOf Gives Fails bytes text failed) (none_failed Gives Fails bytes text some_failed report) report
 
 walks_at : (Gives : Ask → List ℕ → Type 0) (Fails : Ask → BenchFault → Type 0) (source sink : Port) (answer status : Status) → status ≡ answer → Walks Gives Fails source sink answer → Walks Gives Fails source sink status
 walks_at Gives Fails source sink answer status same h = subst (λ (s : Status). Walks Gives Fails source sink s) (sym same) h
@@ -38,9 +57,9 @@ walk_answer Gives Fails source sink (Refused refusal.ReadFault) status h c = wal
 walk_answer Gives Fails source sink (Refused refusal.TooLong) status h c = walks_at Gives Fails source sink TooLong status c.0 (h, c.1)
 walk_answer Gives Fails source sink (Refused refusal.NotJson) status h c = walks_at Gives Fails source sink NotJson status c.0 (h, c.1)
 walk_answer Gives Fails source sink (Refused refusal.NoMemory) status h c = walks_at Gives Fails source sink NoMemory status c.0 c.1
-walk_answer Gives Fails source sink (Reported report) status h (inl done) =
-    walks_at Gives Fails source sink (reported_status report.some_failed) status done.0
-    (reported_walk Gives Fails source sink h.0 report.text report.some_failed h.1 h.2 (inl (refl, done.1)))
+walk_answer Gives Fails source sink (Reported report) status h (inl whole_text) =
+    walks_at Gives Fails source sink Good status (reported_good Gives Fails h.0 report.text report.some_failed status h.2 whole_text.0)
+    (h.0, report.text, h.1, as_good Gives Fails h.0 report.text report.some_failed h.2, whole_text.1)
 walk_answer Gives Fails source sink (Reported report) status h (inr fault) =
     walks_at Gives Fails source sink WriteFault status fault.0 (h.0, report.text, report.some_failed, h.1, h.2, fault.1, fault.2)
 
@@ -133,10 +152,6 @@ read_finding source finding other bytes told input found =
 comes_at : (finding other : Finding) (status : Status) → finding ≡ other → ComesAt other status → ComesAt finding status
 comes_at finding other status same h = subst (λ (f : Finding). ComesAt f status) (sym same) h
 
-reported : (some_failed : Bool) (status : Status) → status ≡ reported_status some_failed → (status ≡ Good) ⊎ (status ≡ SomeFailed)
-reported true status h = inr h
-reported false status h = inl h
-
 exact_walk : (Gives : Ask → List ℕ → Type 0) (Fails : Ask → BenchFault → Type 0) (source sink : Port) (outcome : Outcome) (status : Status) (finding : Finding) → IsWalk Gives Fails source outcome → IsConcluded sink outcome status → Told source finding → IsUndisturbed source sink status → ComesAt finding status
 exact_walk Gives Fails source sink (Refused refusal.Words) status finding h c told calm = absurd h
 exact_walk Gives Fails source sink (Refused refusal.Unbuilt) status finding h c told calm =
@@ -147,8 +162,9 @@ exact_walk Gives Fails source sink (Refused refusal.TooLong) status finding h c 
 exact_walk Gives Fails source sink (Refused refusal.NotJson) status finding h c told calm =
     comes_at finding no_json status (read_finding source finding no_json h.0 told h.1 h.2) c.0
 exact_walk Gives Fails source sink (Refused refusal.NoMemory) status finding h c told calm = absurd (calm.memory c.0)
-exact_walk Gives Fails source sink (Reported report) status finding h (inl done) told calm =
-    comes_at finding (first_job h.2.job) status (read_finding source finding (first_job h.2.job) h.0 told h.1 h.2.read) (reported report.some_failed status done.0)
+exact_walk Gives Fails source sink (Reported report) status finding h (inl whole_text) told calm =
+    comes_at finding (first_job h.2.job) status (read_finding source finding (first_job h.2.job) h.0 told h.1 h.2.read)
+    (reported_good Gives Fails h.0 report.text report.some_failed status h.2 whole_text.0)
 exact_walk Gives Fails source sink (Reported report) status finding h (inr fault) told calm = absurd (calm.sink_kept fault.1)
 
 pub exact : (Gives : Ask → List ℕ → Type 0) (Fails : Ask → BenchFault → Type 0) (words : List (List ℕ)) (source sink : Port) (outcome : Outcome) (status : Status) (finding : Finding) → IsDecided Gives Fails words source outcome → IsConcluded sink outcome status → IsBuilt words → Told source finding → IsUndisturbed source sink status → ComesAt finding status

@@ -1,5 +1,5 @@
 -- The phrase of a job of the first form is one that is built.
-use Rattle.std.proofs.Common.{◌≡◌, ℕ, Bool, true, false, cond, List, refl, sym}
+use Rattle.std.proofs.Common.{◌≡◌, ℕ, Bool, true, false, cond, List}
 use Rattle.std.specs.Prelude.{Option, None, Some, codes, option_and_then}
 use Rattle.std.specs.Str.{bytes_eq}
 use Rattle.serde_json.specs.Data.{Data}

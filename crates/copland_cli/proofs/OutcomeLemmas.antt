@@ -1,5 +1,5 @@
 -- From what was done with a session to what the bytes decide.
-use Rattle.std.proofs.Common.{◌≡◌, ℕ, List}
+use Rattle.std.proofs.Common.{ℕ, List}
 use Rattle.bench_trait.specs.declared.ask.Ask.{Ask}
 use Rattle.bench_trait.specs.declared.bench.BenchFault.{BenchFault}
 use Rattle.session_model.specs.Session.{Session}

@@ -1,5 +1,5 @@
 -- The answers of the program, each with its cause and with what was written.
-use Rattle.std.specs.Prelude.{◌≡◌, ◌≢◌, ◌≤◌, ◌<◌, ◌⊎◌, ℕ, List, ◌++◌, length, Bool, true, false, Option, Some}
+use Rattle.std.specs.Prelude.{◌≡◌, ◌≢◌, ◌≤◌, ◌⊎◌, ℕ, List, ◌++◌, length, Bool, false, Some}
 use Rattle.byte_ports.specs.Port.{Took}
 use Rattle.bench_trait.specs.declared.ask.Ask.{Ask}
 use Rattle.bench_trait.specs.declared.bench.BenchFault.{BenchFault}
@@ -10,7 +10,7 @@ use Rattle.copland_cli.specs.Run.{Port, Failed, IsBadWords, IsBuilt, IsInput, Is
 use Rattle.copland_cli.specs.declared.refusal.Refusal.{Refusal}
 use Rattle.copland_cli.specs.declared.refusal.Refusal.TheVariants as refusal
 use Rattle.copland_cli.specs.declared.status.Status.{Status}
-use Rattle.copland_cli.specs.declared.status.Status.TheVariants.{Good, SomeFailed, Rejected, BadWords, ReadFault, TooLong, NotJson, BadJob, RepeatedPlace, RepeatedArtefact, RepeatedReference, BadRoot, RepeatedNonce, BadPhrase, Misplaced, Oversize, NoReference, BadBundle, WriteFault, NoMemory, Unbuilt}
+use Rattle.copland_cli.specs.declared.status.Status.TheVariants.{Good, BadWords, ReadFault, TooLong, NotJson, WriteFault, NoMemory, Unbuilt}
 
 -- the first of these bytes were written, and nothing else
 abbrev pub WritesFront : Port → List ℕ → Type 0
@@ -36,10 +36,9 @@ ReportFails Gives Fails source sink =
     (bytes : List ℕ) × (text : List ℕ) × (some_failed : Bool) × IsInput source bytes × IsReportOf Gives Fails bytes text some_failed × Failed sink × WritesFront sink text
 
 -- an answer to the words of the one command that is built, with its cause and what was written; the
--- answers that aren't named here don't come
+-- answers that aren't named here don't come, and so no session fails yet
 abbrev pub Walks : (Ask → List ℕ → Type 0) → (Ask → BenchFault → Type 0) → Port → Port → Status → Type 0
 Walks Gives Fails source sink Good = Reports Gives Fails source sink false
-Walks Gives Fails source sink SomeFailed = Reports Gives Fails source sink true
 Walks Gives Fails source sink ReadFault = Failed source × WritesLine sink refusal.ReadFault
 Walks Gives Fails source sink TooLong = IsTooLong source × WritesLine sink refusal.TooLong
 Walks Gives Fails source sink NotJson = IsRead source no_json × WritesLine sink refusal.NotJson
@@ -58,7 +57,7 @@ pub record IsAnswer (Gives : Ask → List ℕ → Type 0) (Fails : Ask → Bench
 abbrev pub ComesAt : Finding → Status → Type 0
 ComesAt no_json status = status ≡ NotJson
 ComesAt no_first_form status = status ≡ Unbuilt
-ComesAt (first_job job) status = (status ≡ Good) ⊎ (status ≡ SomeFailed)
+ComesAt (first_job job) status = status ≡ Good
 
 -- no port met a fault, and memory sufficed
 pub record IsUndisturbed (source sink : Port) (status : Status) : Type 0 where

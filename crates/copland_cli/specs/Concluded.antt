@@ -1,5 +1,5 @@
 -- What the end of a run writes and answers.
-use Rattle.std.specs.Prelude.{◌≡◌, ◌⊎◌, List, ℕ, Bool, true, false}
+use Rattle.std.specs.Prelude.{◌≡◌, ◌⊎◌, Bool, true, false}
 use Rattle.copland_cli.specs.Answer.{Writes, WritesFront, WritesLine}
 use Rattle.copland_cli.specs.Refusal.{status_of}
 use Rattle.copland_cli.specs.Run.{Port, Failed}

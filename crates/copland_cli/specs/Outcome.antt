@@ -7,7 +7,6 @@ use Rattle.session_model.specs.Record.{Record, done, failed, IsRisingRecord}
 use Rattle.copland_cli.specs.Finding.{IsFinding, no_json, no_first_form, first_job}
 use Rattle.copland_cli.specs.Report.{record_text}
 use Rattle.copland_cli.specs.Run.{Port, Failed, IsBadWords, IsBuilt, IsInput, IsRead, IsTooLong, IsUnbuilt, IsUnread, IsWithin}
-use Rattle.copland_cli.specs.declared.refusal.Refusal.{Refusal}
 use Rattle.copland_cli.specs.declared.refusal.Refusal.TheVariants.{Words, Unbuilt, ReadFault, TooLong, NotJson, NoMemory}
 use Rattle.copland_cli.specs.declared.outcome.Outcome.{Outcome}
 use Rattle.copland_cli.specs.declared.outcome.Outcome.TheVariants.{Refused, Reported}

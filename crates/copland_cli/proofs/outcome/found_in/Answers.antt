@@ -1,4 +1,4 @@
-use Rattle.std.proofs.Common.{◌≡◌, sym}
+use Rattle.std.proofs.Common.{sym}
 use Rattle.serde_json.specs.View.{view}
 use Rattle.copland_cli.specs.FirstSession.{session}
 use Rattle.copland_cli.proofs.FormLemmas.{first_form-plain}

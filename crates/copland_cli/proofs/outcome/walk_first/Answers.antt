@@ -1,5 +1,5 @@
 -- The text is the record's, since nothing stood before it.
-use Rattle.std.proofs.Common.{◌≡◌, ◌++◌, ℕ, List, ap, ◌∙◌}
+use Rattle.std.proofs.Common.{◌++◌, ℕ, List, ap, ◌∙◌}
 use Rattle.copland_cli.specs.Recorded.{recorded}
 use Rattle.copland_cli.specs.Report.{record_text}
 use Rattle.copland_cli.proofs.outcome.walk_first.Goals as goal

@@ -1,7 +1,5 @@
 -- The clauses from what was decided and what was concluded.
-use Rattle.std.proofs.Common.{ℕ, List, []}
-use Rattle.bench_trait.specs.declared.ask.Ask.{Ask}
-use Rattle.bench_trait.specs.declared.bench.BenchFault.{BenchFault}
+use Rattle.std.proofs.Common.{[]}
 use Rattle.copland_cli.specs.Run.{Port}
 use Rattle.copland_cli.specs.Words.{texts}
 use Rattle.copland_cli.proofs.AnswerLemmas.{answers, bad_words, exact, too_long}

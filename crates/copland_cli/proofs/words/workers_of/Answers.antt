@@ -1,5 +1,5 @@
 -- A text spells one number only.
-use Rattle.std.proofs.Common.{◌≡◌, arith, sym, ◌∙◌}
+use Rattle.std.proofs.Common.{arith, sym, ◌∙◌}
 use Rattle.std.proofs.lemmas.Fmt.{decimal_injective}
 use Rattle.copland_cli.proofs.words.workers_of.Goals as goal
 
