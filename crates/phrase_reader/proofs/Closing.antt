@@ -1,15 +1,13 @@
 -- Any state can be closed: what was read is a front of a list that spells a phrase.
-use Rattle.std.proofs.Common.{◌≡◌, ◌++◌, ℕ, List, [], ◌∷◌, Option, Some, None, refl, ap, ◌∙◌, sym, subst, append_assoc}
+use Rattle.std.proofs.Common.{◌≡◌, ◌++◌, ℕ, List, [], ◌∷◌, Some, None, refl, ap, ◌∙◌, sym, subst, append_assoc}
 use Rattle.std.proofs.lemmas.List.{append-nil}
-use Rattle.phrase_tree.specs.declared.measurement.Asp.{Asp}
 use Rattle.phrase_tree.specs.Term.{Term, cpy, kim, usm, at}
 use Rattle.phrase_reader.specs.declared.token.Leaf.TheVariants.{Cpy}
 use Rattle.phrase_reader.specs.declared.token.Token.{Token}
 use Rattle.phrase_reader.specs.declared.token.Token.TheVariants as tokens
-use Rattle.phrase_reader.specs.declared.state.Bracket.{Bracket}
-use Rattle.phrase_reader.specs.Grammar.{measurement, measurement_tokens, name_token, IsBranch, IsUnit, IsViable, alone, single, leaves, measures, asks}
+use Rattle.phrase_reader.specs.Grammar.{measurement, name_token, IsBranch, IsUnit, IsViable, alone, single, leaves, measures, asks}
 use Rattle.phrase_reader.specs.Machine.{Parts, Frame, Stage, State, unit_next, place_next, square_next, target_next, service_next, measured, ended, whole_with, bracketed}
-use Rattle.phrase_reader.proofs.Meaning.{PartsTokens, StackTokens, StageTokens, StateMeans, Means, bracket_tokens, service_tokens, closing, closed_read, branch_read}
+use Rattle.phrase_reader.proofs.Meaning.{PartsTokens, StackTokens, StageTokens, StateMeans, bracket_tokens, closing, closed_read, branch_read}
 
 -- more tokens end the last unit
 record Ended (last : List Token) : Type 0 where

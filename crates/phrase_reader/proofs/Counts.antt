@@ -1,6 +1,5 @@
 -- Events and brackets, counted token by token: the open branches are the open brackets.
-use Rattle.std.proofs.Common.{◌≡◌, ◌≤◌, ◌<◌, ◌+◌, ◌-◌, ◌++◌, ℕ, List, [], ◌∷◌, Option, Some, None, length, refl, ap, ◌∙◌, sym, arith, option_map, option_and_then}
-use Rattle.phrase_tree.specs.declared.measurement.Arg.{Arg}
+use Rattle.std.proofs.Common.{◌≡◌, ◌+◌, ◌++◌, ℕ, List, [], ◌∷◌, Option, Some, None, length, refl, ap, arith, option_map, option_and_then}
 use Rattle.phrase_tree.specs.Term.{Term}
 use Rattle.phrase_reader.specs.declared.token.Op.{Op}
 use Rattle.phrase_reader.specs.declared.token.Token.{Token}
@@ -8,9 +7,9 @@ use Rattle.phrase_reader.specs.declared.token.Token.TheVariants as tokens
 use Rattle.phrase_reader.specs.declared.state.Bracket.{Bracket}
 use Rattle.phrase_reader.specs.declared.state.Bracket.TheVariants.{Round, Square}
 use Rattle.phrase_reader.specs.Grammar.{leaf}
-use Rattle.phrase_reader.specs.Refusal.{token_events, events_in, opens, closes, opened_in, closed_in, open_in}
-use Rattle.phrase_reader.specs.Machine.{Arm, Parts, Frame, Stage, State, unit_next, place_next, square_next, target_next, service_next, measured, ended, start, unit_of, branch_of, whole_with, begun_from, inside, round_opened, square_opened, left_behind, round_left, square_left, round_closed, square_closed, linked, armed, branched, valued, with_stage, step, run}
-use Rattle.phrase_reader.proofs.Drives.{some_same, state_at, parts_with}
+use Rattle.phrase_reader.specs.Refusal.{events_in, opens, closes, opened_in, closed_in, open_in}
+use Rattle.phrase_reader.specs.Machine.{Arm, Parts, Frame, Stage, State, unit_next, place_next, square_next, target_next, service_next, measured, ended, start, unit_of, branch_of, begun_from, inside, round_opened, square_opened, left_behind, round_left, square_left, round_closed, square_closed, linked, armed, branched, valued, with_stage, step, run}
+use Rattle.phrase_reader.proofs.Drives.{some_same, state_at}
 
 pub events_joined : (front back : List Token) → events_in (front ++ back) ≡ events_in front + events_in back
 events_joined [] back = omega arith

@@ -1,16 +1,15 @@
 -- What spells a phrase drives the reader to its end: a run over a joined list, and the run of a derivation.
-use Rattle.std.proofs.Common.{◌≡◌, ◌+◌, ◌++◌, ℕ, List, [], ◌∷◌, Option, Some, None, map, refl, ap, ◌∙◌, sym, append_assoc, option_map, option_and_then}
+use Rattle.std.proofs.Common.{◌≡◌, ◌++◌, ℕ, List, [], ◌∷◌, Option, Some, None, map, refl, ap, ◌∙◌, sym, append_assoc, option_map, option_and_then}
 use Rattle.std.proofs.lemmas.List.{append-nil}
 use Rattle.phrase_tree.specs.declared.measurement.Arg.{Arg}
-use Rattle.phrase_tree.specs.declared.measurement.Arg.TheVariants.{Word}
 use Rattle.phrase_tree.specs.declared.measurement.Asp.{Asp}
 use Rattle.phrase_tree.specs.Term.{Term, chain, at}
 use Rattle.phrase_reader.specs.declared.token.Op.{Op}
 use Rattle.phrase_reader.specs.declared.token.Token.{Token}
 use Rattle.phrase_reader.specs.declared.token.Token.TheVariants as tokens
 use Rattle.phrase_reader.specs.declared.state.Bracket.TheVariants.{Round, Square}
-use Rattle.phrase_reader.specs.Grammar.{leaf, measurement, measurement_tokens, name_token, joined, IsBranch, IsChain, IsUnit, alone, branches, single, links, leaves, measures, asks, brackets}
-use Rattle.phrase_reader.specs.Machine.{Arm, Parts, Frame, Stage, State, unit_next, place_next, square_next, target_next, service_next, measured, ended, fresh, start, chain_with, branch_with, whole_with, unit_of, branch_of, finished, step, run, branched, armed, linked, round_closed, square_closed}
+use Rattle.phrase_reader.specs.Grammar.{leaf, measurement_tokens, name_token, joined, IsBranch, IsChain, IsUnit, alone, branches, single, links, leaves, measures, asks, brackets}
+use Rattle.phrase_reader.specs.Machine.{Arm, Parts, Frame, Stage, State, unit_next, measured, ended, fresh, start, chain_with, whole_with, unit_of, branch_of, finished, step, run, armed, linked, round_closed, square_closed}
 
 bound : (o : Option State) (f g : State → Option State) (next : State) (target : Option State) → option_and_then f o ≡ Some next → ((s : State) → f s ≡ Some next → g s ≡ target) → option_and_then g o ≡ target
 bound None f g next target h k = cc

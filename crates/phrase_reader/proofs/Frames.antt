@@ -1,5 +1,5 @@
 -- The open branches: the last of the list is the innermost.
-use Rattle.std.proofs.Common.{◌≡◌, ◌+◌, ◌++◌, ◌==◌, ℕ, suc, List, [], ◌∷◌, Option, Some, None, length, cond, refl, ap, ◌∙◌, sym, arith, if◌then◌else◌, Bool, true, false, is_some, option_map, vec_len}
+use Rattle.std.proofs.Common.{◌≡◌, ◌+◌, ◌++◌, ◌==◌, suc, List, [], ◌∷◌, Option, Some, None, length, refl, ap, ◌∙◌, sym, arith, if◌then◌else◌, true, false, is_some, option_map, vec_len}
 use Rattle.std.proofs.lemmas.Bool.{cond-false, cond-true, ne_eqb, false≢true}
 use Rattle.phrase_tree.specs.Term.{Term}
 use Rattle.phrase_reader.specs.declared.state.Frame as coded

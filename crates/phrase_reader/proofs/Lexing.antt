@@ -1,11 +1,10 @@
 -- What is found from an offset on: blanks are passed over, and a token ends within the text.
-use Rattle.std.proofs.Common.{◌≡◌, ◌≤◌, ◌<◌, ◌+◌, ◌-◌, ◌++◌, ◌||◌, ◌==◌, ◌&&◌, ℕ, zero, suc, Bool, true, false, not, cond, List, [], ◌∷◌, Option, Some, None, Result, Ok, Err, length, take, drop, refl, ap, ◌∙◌, sym, subst, arith, add_comm, add-one}
+use Rattle.std.proofs.Common.{◌≡◌, ◌≤◌, ◌<◌, ◌+◌, ◌-◌, ◌||◌, ◌==◌, ◌&&◌, ℕ, zero, suc, Bool, true, false, not, cond, List, [], ◌∷◌, Option, Some, None, Result, Ok, Err, length, take, drop, refl, ap, ◌∙◌, sym, subst, arith, add_comm, add-one}
 use Rattle.std.proofs.lemmas.Bool.{cond-true, cond-false, cond_both, or_left}
 use Rattle.std.proofs.lemmas.List.{drop-drop, length-drop}
 use Rattle.std.specs.List.{prefix_len, take_while}
 use Rattle.phrase_reader.specs.declared.refusal.Kind.{Kind}
 use Rattle.phrase_reader.specs.declared.refusal.Kind.TheVariants as kinds
-use Rattle.phrase_reader.specs.declared.token.Op.{Op}
 use Rattle.phrase_reader.specs.declared.token.Token.{Token}
 use Rattle.phrase_reader.specs.declared.token.Token.TheVariants as tokens
 use Rattle.phrase_reader.specs.declared.lexeme.Lexeme.{Lexeme}
@@ -106,7 +105,7 @@ found_by v offset byte rest =
 found_blank : (byte : ℕ) (rest : List ℕ) (offset : ℕ) → is_blank byte ≡ true → found offset 0 (byte ∷ rest) ≡ found (offset + 1) 0 rest
 found_blank byte rest offset e = ap (λ v. found_by v offset byte rest) e
 
-found_token : (byte : ℕ) (rest : List ℕ) (offset : ℕ) → is_blank byte ≡ false → found offset 0 (byte ∷ rest) ≡ found_here offset (byte ∷ rest)
+pub found_token : (byte : ℕ) (rest : List ℕ) (offset : ℕ) → is_blank byte ≡ false → found offset 0 (byte ∷ rest) ≡ found_here offset (byte ∷ rest)
 found_token byte rest offset e = ap (λ v. found_by v offset byte rest) e
 
 blank_by : (byte : ℕ) (rest : List ℕ) (offset start : ℕ) (v : Bool) → is_blank byte ≡ v → start ≡ offset + prefix_len is_blank (byte ∷ rest) → ((n : ℕ) → start ≡ n + prefix_len is_blank rest → found n 0 rest ≡ found_here start (drop (prefix_len is_blank rest) rest)) → found offset 0 (byte ∷ rest) ≡ found_here start (drop (prefix_len is_blank (byte ∷ rest)) (byte ∷ rest))

@@ -8,4 +8,5 @@ pub mod Sized
 pub mod Verdicts
 pub mod Lexing
 pub mod Progress
+pub mod Enclosed
 mod Rows

@@ -1,18 +1,17 @@
 -- What the reader's state means: which tokens were read. A step keeps it, and any state can be closed.
-use Rattle.std.proofs.Common.{◌≡◌, ◌+◌, ◌++◌, ℕ, List, [], ◌∷◌, Option, Some, None, map, refl, ap, ◌∙◌, sym, subst, append_assoc, option_map, option_and_then}
+use Rattle.std.proofs.Common.{◌≡◌, ◌++◌, ℕ, List, [], ◌∷◌, Option, Some, None, refl, ap, ◌∙◌, sym, subst, append_assoc, option_map, option_and_then}
 use Rattle.std.proofs.lemmas.List.{append-nil, map-append}
 use Rattle.phrase_tree.specs.declared.measurement.Arg.{Arg}
 use Rattle.phrase_tree.specs.declared.measurement.Arg.TheVariants.{Word, Number}
 use Rattle.phrase_tree.specs.declared.measurement.Asp.{Asp}
-use Rattle.phrase_tree.specs.Term.{Term, cpy, chain, at}
-use Rattle.phrase_reader.specs.declared.token.Leaf.TheVariants.{Cpy}
+use Rattle.phrase_tree.specs.Term.{Term}
 use Rattle.phrase_reader.specs.declared.token.Op.{Op}
 use Rattle.phrase_reader.specs.declared.token.Token.{Token}
 use Rattle.phrase_reader.specs.declared.token.Token.TheVariants as tokens
 use Rattle.phrase_reader.specs.declared.state.Bracket.{Bracket}
 use Rattle.phrase_reader.specs.declared.state.Bracket.TheVariants.{Round, Square}
-use Rattle.phrase_reader.specs.Grammar.{leaf, measurement, measurement_tokens, name_token, asp_tokens, joined, IsBranch, IsChain, IsUnit, IsViable, alone, branches, single, links, leaves, measures, asks, brackets}
-use Rattle.phrase_reader.specs.Machine.{Arm, Parts, Frame, Stage, State, unit_next, place_next, square_next, target_next, service_next, measured, ended, fresh, start, chain_with, branch_with, whole_with, unit_of, branch_of, finished, finished_with, bracketed, begun_from, begun, inside, round_opened, square_opened, left_behind, round_left, square_left, round_closed, square_closed, linked, armed, branched, with_name, named, valued, with_stage, step, run}
+use Rattle.phrase_reader.specs.Grammar.{leaf, measurement, measurement_tokens, name_token, IsBranch, IsChain, IsUnit, alone, branches, single, links, leaves, measures, asks, brackets}
+use Rattle.phrase_reader.specs.Machine.{Arm, Parts, Frame, Stage, State, unit_next, place_next, square_next, target_next, service_next, measured, ended, fresh, start, chain_with, branch_with, whole_with, unit_of, finished_with, bracketed, begun_from, inside, round_opened, square_opened, left_behind, round_left, square_left, round_closed, square_closed, linked, armed, branched, with_name, named, valued, with_stage, step, run}
 use Rattle.phrase_reader.proofs.Drives.{some_same, state_at, parts_with}
 
 abbrev pub LinkTokens : Option Term → List Token → Type 0

@@ -1,22 +1,20 @@
 -- How far a text was read: what comes of the rest comes of the whole.
-use Rattle.std.proofs.Common.{◌≡◌, ◌≤◌, ◌<◌, ◌+◌, ◌++◌, ◌⊎◌, ◌↔◌, ℕ, Bool, true, false, cond, List, [], ◌∷◌, Option, Some, None, Result, Ok, Err, length, drop, nat_lt, refl, ap, ◌∙◌, sym, subst, append_assoc, arith, inl, inr}
+use Rattle.std.proofs.Common.{◌≡◌, ◌≤◌, ◌<◌, ◌+◌, ◌++◌, ◌⊎◌, ◌↔◌, ℕ, List, [], ◌∷◌, Option, Some, None, Result, Ok, Err, length, drop, refl, ap, ◌∙◌, sym, subst, append_assoc, arith, inl, inr}
 use Rattle.std.proofs.lemmas.List.{append-nil}
 use Rattle.phrase_tree.specs.declared.phrase.Phrase.{Phrase}
 use Rattle.phrase_tree.specs.Term.{Term, term}
-use Rattle.phrase_tree.specs.Numbering.{IsSized}
 use Rattle.phrase_reader.specs.declared.refusal.Kind.{Kind}
 use Rattle.phrase_reader.specs.declared.refusal.Kind.TheVariants.{Expected, TooLong}
 use Rattle.phrase_reader.specs.declared.refusal.ReadError.{ReadError}
 use Rattle.phrase_reader.specs.declared.refusal.ReadError.TheVariants.{Refused, NoMemory}
 use Rattle.phrase_reader.specs.declared.token.Token.{Token}
-use Rattle.phrase_reader.specs.declared.reader.Reader.{Reader}
 use Rattle.phrase_reader.specs.Tokens.{Found, token_at, refused_at, ends_at, found, tokens_of}
 use Rattle.phrase_reader.specs.Grammar.{IsBranch, IsWhole}
-use Rattle.phrase_reader.specs.Refusal.{token_events, events_in, opened_in, closed_in, BreaksRule, Breaks, BreaksNone, behind, Refuses, IsRefusal, IsRead}
-use Rattle.phrase_reader.specs.Machine.{State, start, finished, step, limit, limited, verdict_on, verdict, unfit, state_of}
+use Rattle.phrase_reader.specs.Refusal.{token_events, events_in, opened_in, closed_in, Breaks, BreaksNone, Refuses, IsRefusal, IsRead}
+use Rattle.phrase_reader.specs.Machine.{State, start, finished, step, limit, limited, verdict}
 use Rattle.phrase_reader.specs.Reading.{AnswersWith, UnlessNoMemory, Reads, Accepts, Finishes}
 use Rattle.phrase_reader.proofs.Drives.{some_same}
-use Rattle.phrase_reader.proofs.Counts.{events_joined, height, run_height, open_height}
+use Rattle.phrase_reader.proofs.Counts.{events_joined, height, run_height}
 use Rattle.phrase_reader.proofs.Sized.{Within, spelled_sized}
 use Rattle.phrase_reader.proofs.Verdicts.{Reached, whole_phrase, phrase_whole, not_whole, reached_next, verdict_fits, rule_verdict, verdict_rule, next_low}
 

@@ -1,6 +1,6 @@
 -- Worked rows: what is found in some texts.
-use Rattle.std.proofs.Common.{◌≡◌, List, [], ◌∷◌, refl, codes}
-use Rattle.phrase_tree.specs.declared.measurement.Arg.TheVariants.{Word, Number}
+use Rattle.std.proofs.Common.{◌≡◌, [], ◌∷◌, refl, codes}
+use Rattle.phrase_tree.specs.declared.measurement.Arg.TheVariants.{Word}
 use Rattle.phrase_reader.specs.declared.refusal.Kind.TheVariants as kinds
 use Rattle.phrase_reader.specs.declared.token.Leaf.TheVariants.{Cpy}
 use Rattle.phrase_reader.specs.declared.token.Token.TheVariants as tokens

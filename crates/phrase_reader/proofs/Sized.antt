@@ -1,9 +1,8 @@
 -- A phrase has as many events as its tokens count, and no more open brackets than they have.
-use Rattle.std.proofs.Common.{◌≡◌, ◌≤◌, ◌<◌, ◌+◌, ◌-◌, ◌++◌, ◌||◌, ℕ, Bool, true, false, max, List, [], ◌∷◌, Option, Some, None, refl, ap, ◌∙◌, sym, append_assoc, arith, map, cond, if◌then◌else◌}
+use Rattle.std.proofs.Common.{◌≡◌, ◌≤◌, ◌+◌, ◌++◌, ◌||◌, ℕ, Bool, true, false, max, List, [], ◌∷◌, Option, Some, None, refl, ap, ◌∙◌, sym, append_assoc, arith, map, if◌then◌else◌}
 use Rattle.phrase_tree.specs.declared.measurement.Arg.{Arg}
 use Rattle.phrase_tree.specs.declared.measurement.Asp.{Asp}
-use Rattle.phrase_tree.specs.declared.phrase.Split.{Split}
-use Rattle.phrase_tree.specs.Term.{Term, cpy, sig, hsh, usm, kim, at, chain, seq, par, is_branch, is_chain}
+use Rattle.phrase_tree.specs.Term.{Term, seq, par, is_branch, is_chain}
 use Rattle.phrase_tree.specs.Numbering.{event_count, depth, IsSized}
 use Rattle.phrase_reader.specs.declared.token.Leaf.{Leaf}
 use Rattle.phrase_reader.specs.declared.token.Leaf.TheVariants.{Cpy, Sig, Hsh}

@@ -1,7 +1,6 @@
 -- The reader's verdict on a token is the rule that the token breaks.
-use Rattle.std.proofs.Common.{◌≡◌, ◌≤◌, ◌<◌, ◌+◌, ◌++◌, ◌⊎◌, ℕ, Bool, true, false, cond, List, [], ◌∷◌, Option, Some, None, length, nat_le, nat_lt, refl, ap, ◌∙◌, sym, subst, append_assoc, arith, option_map, option_and_then, inl, inr}
-use Rattle.std.proofs.lemmas.Bool.{cond-true, cond-false, le-leb, leb-true, lt-ltb, ltb-true, cases_lt}
-use Rattle.phrase_tree.specs.declared.measurement.Arg.{Arg}
+use Rattle.std.proofs.Common.{◌≡◌, ◌≤◌, ◌<◌, ◌+◌, ◌++◌, ◌⊎◌, ℕ, Bool, true, false, cond, List, [], ◌∷◌, Option, Some, None, length, nat_le, nat_lt, refl, ap, ◌∙◌, sym, subst, append_assoc, arith, option_and_then, inl, inr}
+use Rattle.std.proofs.lemmas.Bool.{cond-true, le-leb, leb-true, lt-ltb, ltb-true, cases_lt}
 use Rattle.phrase_tree.specs.declared.measurement.Asp.{Asp}
 use Rattle.phrase_tree.specs.Term.{Term}
 use Rattle.phrase_reader.specs.declared.refusal.Kind.{Kind}
@@ -9,12 +8,12 @@ use Rattle.phrase_reader.specs.declared.refusal.Kind.TheVariants.{Char, Word, Ex
 use Rattle.phrase_reader.specs.declared.token.Token.{Token}
 use Rattle.phrase_reader.specs.declared.token.Token.TheVariants as tokens
 use Rattle.phrase_reader.specs.Grammar.{IsBranch, IsWhole, IsViable, measurement_tokens}
-use Rattle.phrase_reader.specs.Refusal.{token_events, events_in, open_in, IsFifthArgument, BreaksRule}
-use Rattle.phrase_reader.specs.Machine.{Parts, Frame, Stage, State, unit_next, place_next, square_next, target_next, service_next, measured, ended, start, finished, unit_of, step, run, args_full, too_many, too_deep, limit, limited, unfit, verdict_on, verdict}
+use Rattle.phrase_reader.specs.Refusal.{token_events, events_in, IsFifthArgument, BreaksRule}
+use Rattle.phrase_reader.specs.Machine.{Parts, Frame, Stage, State, unit_next, place_next, square_next, target_next, service_next, measured, ended, start, finished, unit_of, step, run, too_many, too_deep, limit, limited, unfit, verdict_on, verdict}
 use Rattle.phrase_reader.proofs.Drives.{some_same, state_at, run_joined, whole_runs, measurement_run}
 use Rattle.phrase_reader.proofs.Meaning.{StateMeans, StageTokens, start_means, step_means, run_means, finished_read}
 use Rattle.phrase_reader.proofs.Closing.{state_viable}
-use Rattle.phrase_reader.proofs.Counts.{events_joined, height, step_height, open_height, run_height}
+use Rattle.phrase_reader.proofs.Counts.{events_joined, height, step_height, open_height}
 
 -- the tokens before lead from the start to the state
 pub record Reached (before : List Token) (state : State) : Type 0 where

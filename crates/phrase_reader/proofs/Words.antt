@@ -1,11 +1,11 @@
 -- Words: names are ASCII, and a decimal may be capped at each digit.
-use Rattle.std.proofs.Common.{◌≡◌, ◌+◌, ◌-◌, ◌*◌, ◌<◌, ◌≤◌, ◌||◌, ◌&&◌, ◌==◌, ℕ, zero, suc, min, Bool, true, false, List, [], ◌∷◌, IsTrue, get_or, nat_le, sym, ap, ◌∙◌, arith, length, drop, add-one, drop-cons}
+use Rattle.std.proofs.Common.{◌≡◌, ◌+◌, ◌-◌, ◌*◌, ◌<◌, ◌≤◌, ◌&&◌, ℕ, zero, suc, min, true, List, [], ◌∷◌, get_or, nat_le, sym, ap, ◌∙◌, arith, length, drop, add-one, drop-cons}
 use Rattle.std.specs.List.{list_all}
 use Rattle.std.specs.Str.{IsAscii, IsUtf8}
-use Rattle.std.proofs.lemmas.Bool.{and_parts, or_cases}
+use Rattle.std.proofs.lemmas.Bool.{and_parts}
 use Rattle.std.proofs.lemmas.Bool.Decides.{nat_tests}
 use Rattle.std.proofs.lemmas.Str.{IsUtf8-from_ascii}
-use Rattle.phrase_tree.specs.Name.{IsName, is_name, is_name_byte, is_small_letter}
+use Rattle.phrase_tree.specs.Name.{IsName, is_name_byte, is_small_letter}
 use Rattle.std.specs.List.{prefix_len}
 use Rattle.std.proofs.lemmas.List.Sums.{prefix_len-le-length}
 use Rattle.phrase_reader.specs.Tokens.{decimal_from, is_blank}

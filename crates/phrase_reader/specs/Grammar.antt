@@ -1,7 +1,6 @@
 -- The grammar of phrases over lists of tokens (the forms are those of POST 2019, the spelling is this
 -- project's own), in four levels: a branch, a chain, a unit, and the arguments of a measurement.
-use Rattle.std.specs.Prelude.{◌≡◌, ◌++◌, ℕ, Bool, true, false, List, [], ◌∷◌, Option, Some, None, map, if◌then◌else◌}
-use Rattle.phrase_tree.specs.declared.measurement.Arg.{Arg}
+use Rattle.std.specs.Prelude.{◌≡◌, ◌++◌, ℕ, List, [], ◌∷◌, Option, Some, None, map, if◌then◌else◌}
 use Rattle.phrase_tree.specs.declared.measurement.Arg.TheVariants.{Word}
 use Rattle.phrase_tree.specs.declared.measurement.Asp.{Asp}
 use Rattle.phrase_tree.specs.Term.{Term, cpy, sig, hsh, usm, kim, at, chain, seq, par}

@@ -1,5 +1,5 @@
 -- What reading a text answers, and what the reader's functions promise one another.
-use Rattle.std.specs.Prelude.{◌≡◌, ◌≤◌, ◌<◌, ◌+◌, ◌↔◌, ℕ, Bool, true, false, List, [], ◌∷◌, Option, Some, None, Result, Ok, Err, length, drop, nat_lt}
+use Rattle.std.specs.Prelude.{◌≡◌, ◌≤◌, ◌<◌, ◌+◌, ◌↔◌, ℕ, true, false, List, [], ◌∷◌, Some, None, Result, Ok, Err, length, drop, nat_lt}
 use Rattle.phrase_tree.specs.declared.phrase.Phrase.{Phrase}
 use Rattle.phrase_tree.specs.Term.{Term, term}
 use Rattle.phrase_tree.specs.Numbering.{IsSized}
@@ -11,12 +11,11 @@ use Rattle.phrase_reader.specs.declared.token.Token.{Token}
 use Rattle.phrase_reader.specs.declared.piece.Piece.{Piece}
 use Rattle.phrase_reader.specs.declared.piece.Piece.TheVariants as pieces
 use Rattle.phrase_reader.specs.declared.reader.Reader.{Reader}
-use Rattle.phrase_reader.specs.declared.state.State as coded
 use Rattle.phrase_reader.specs.declared.state.Stop.{Stop}
 use Rattle.phrase_reader.specs.declared.state.Stop.TheVariants.{Unfit, Limit, Memory}
 use Rattle.phrase_reader.specs.Tokens.{Found, token_at, refused_at, ends_at, found, tokens_of}
 use Rattle.phrase_reader.specs.Grammar.{IsBranch}
-use Rattle.phrase_reader.specs.Refusal.{Refuses, IsRefusal, IsRead, token_events}
+use Rattle.phrase_reader.specs.Refusal.{Refuses, token_events}
 use Rattle.phrase_reader.specs.Machine.{State, state_of, step, verdict, finished, unfit}
 
 -- the reader answered with this phrase

@@ -3,13 +3,10 @@ use Rattle.std.specs.Prelude.{zero, suc, ◌+◌, ◌-◌, ◌*◌, ◌==◌, �
 use Rattle.std.specs.List.{list_all, take_while}
 use Rattle.std.specs.Str.{bytes_eq}
 use Rattle.phrase_tree.specs.Name.{is_small_letter, is_name}
-use Rattle.phrase_tree.specs.declared.measurement.Arg.{Arg}
 use Rattle.phrase_tree.specs.declared.measurement.Arg.TheVariants.{Word, Number}
-use Rattle.phrase_tree.specs.declared.phrase.Split.{Split}
 use Rattle.phrase_reader.specs.declared.refusal.Kind.{Kind}
 use Rattle.phrase_reader.specs.declared.refusal.Kind.TheVariants as kinds
 use Rattle.phrase_reader.specs.declared.token.Leaf.TheVariants.{Cpy, Sig, Hsh}
-use Rattle.phrase_reader.specs.declared.token.Op.{Op}
 use Rattle.phrase_reader.specs.declared.token.Token.{Token}
 use Rattle.phrase_reader.specs.declared.token.Token.TheVariants as tokens
 use Rattle.phrase_reader.specs.declared.lexeme.Lexeme.{Lexeme}

@@ -5,10 +5,14 @@
 
 mod lexeme;
 mod piece;
+mod printer;
 mod reader;
 mod refusal;
 mod state;
+#[cfg(test)]
+mod tests;
 mod token;
 
+pub use printer::print;
 pub use reader::read;
 pub use refusal::{Kind, ReadError};

@@ -1,7 +1,6 @@
 -- What stands at the front behind the blanks is what is found.
-use Rattle.std.proofs.Common.{◌≡◌, ◌≤◌, ◌+◌, length, drop, sym, ap, refl, ◌∙◌, arith}
+use Rattle.std.proofs.Common.{◌≤◌, ◌+◌, length, drop, sym, ap, refl, ◌∙◌, arith}
 use Rattle.std.specs.List.{prefix_len}
-use Rattle.phrase_reader.specs.declared.lexeme.Lexeme.TheVariants.{Read, Refused, End}
 use Rattle.phrase_reader.specs.Tokens.{is_blank, front}
 use Rattle.phrase_reader.proofs.Lexing.{found_read, found_refused, found_end}
 use Rattle.phrase_reader.proofs.piece.find.Goals as goal
