@@ -29,31 +29,35 @@ fn reference(rt: &impl Abort, place: &str, kind: AskKind, arg: Option<u32>, byte
     }
 }
 
+/// The byte that the answer of the reference for this measurement has.
+fn found(
+    rt: &impl Abort,
+    book: &References,
+    place: &str,
+    kind: AskKind,
+    arg: Option<u32>,
+) -> Option<u8> {
+    match book.find(name(rt, place), &kind, &scan(rt, arg)) {
+        Some(answer) => answer.bytes().first().copied(),
+        None => None,
+    }
+}
+
 #[test]
 fn references_are_found_by_place_kind_and_measurement(rt: HostRuntime) -> Result<(), Fail> {
-    let alloc = rt.alloc();
     let q = name(&rt, "q");
-    let rows = [
-        ("bank", AskKind::Usm, None, 1),
-        ("bank", AskKind::Kim(q), None, 2),
-        ("bank", AskKind::Usm, Some(7), 3),
-        ("q", AskKind::Usm, None, 4),
-    ];
-    let mut entries = Vec::new(alloc);
-    for (place, kind, arg, byte) in rows {
-        entries.push(reference(&rt, place, kind, arg, byte))?;
-    }
-    assert!(rt; entries.len() == 4);
-    let book = match References::of(entries) {
-        Ok(book) => book,
-        Err(_) => return Err("refused".into()),
-    };
-    for (place, kind, arg, byte) in rows {
-        let found = book.find(name(&rt, place), &kind, &scan(&rt, arg));
-        assert_eq!(rt; found.expect(&rt, "a reference").bytes(), [byte].as_slice());
-    }
-    assert!(rt; book.find(q, &AskKind::Kim(q), &scan(&rt, None)).is_none());
-    assert!(rt; book.find(q, &AskKind::Usm, &scan(&rt, Some(7))).is_none());
+    let mut entries = Vec::new(rt.alloc());
+    entries.push(reference(&rt, "bank", AskKind::Usm, None, 1))?;
+    entries.push(reference(&rt, "bank", AskKind::Kim(q), None, 2))?;
+    entries.push(reference(&rt, "bank", AskKind::Usm, Some(7), 3))?;
+    entries.push(reference(&rt, "q", AskKind::Usm, None, 4))?;
+    let book = References::of(entries)?;
+    assert_eq!(rt; found(&rt, &book, "bank", AskKind::Usm, None), Some(1));
+    assert_eq!(rt; found(&rt, &book, "bank", AskKind::Kim(q), None), Some(2));
+    assert_eq!(rt; found(&rt, &book, "bank", AskKind::Usm, Some(7)), Some(3));
+    assert_eq!(rt; found(&rt, &book, "q", AskKind::Usm, None), Some(4));
+    assert_eq!(rt; found(&rt, &book, "q", AskKind::Kim(q), None), None);
+    assert_eq!(rt; found(&rt, &book, "q", AskKind::Usm, Some(7)), None);
     Ok(())
 }
 
