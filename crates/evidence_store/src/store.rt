@@ -1,0 +1,173 @@
+ghost use Rattle.std.specs.Prelude.{◌≡◌, ◌≤◌, ◌<◌, [], length, IfOk, OnOk};
+ghost use Rattle.seal_hmac.specs.Seal.{seal_of, hash_of};
+ghost use Rattle.evidence_types.specs.Evidence as evidence;
+ghost use Rattle.evidence_types.specs.Bytes.{encoding, bundle, FitsBundle};
+ghost use Rattle.evidence_store.specs.Kept.{value_at, Adds, measured, paired};
+ghost use Rattle.evidence_store.specs.Nodes.{node_value, NamesBelow};
+
+use crate::bundle::bundle;
+use crate::digest::feed_value;
+use crate::id::EvId;
+use crate::node::{Node, push_node};
+use byte_ports::Bytes;
+use evidence_types::Answer;
+use phrase_tree::{NoMemory, Place};
+use seal_hmac::{Digester, Key};
+use std::alloc::Global;
+use std::marker::Model;
+
+/// Values of evidence, each under an id that stands for it for good.
+///
+/// A value is kept as one node that names its parts by their ids, so values share parts, and one
+/// may have far more bytes than the store has nodes. Every value has at most 262,144 bytes and nests
+/// at most 1,025 deep, which is the condition of each addition. A node takes about 1,060 bytes: an
+/// answer lies in it.
+///
+/// An addition where the store has spare takes no memory and succeeds; else it may take memory, and
+/// an error is want of it, after which all stays. An addition takes constant time, but for a seal
+/// and a hash, which take time linear in the bytes that they cover.
+#[derive(Debug, Drop)]
+pub struct Store {
+    nodes: Vec<Node>,
+}
+
+impl Model for Store {
+    ghost use Rattle.std.specs.Prelude.{◌-◌, vec_len, vec_capacity};
+    ghost use Rattle.evidence_store.specs.Kept.{Kept, kept_code};
+    ghost use Rattle.evidence_store.specs.Nodes.{values_of, IsSound};
+
+    ghost Value = { Kept };
+
+    ghost coded = { kept_code };
+
+    ghost view = { λ store. record {
+      values = values_of store.nodes.items;
+      spare = vec_capacity store.nodes - vec_len store.nodes;
+    } };
+
+    ghost invariant = { λ store. IsSound store.nodes.items };
+}
+
+impl Store {
+    /// An empty store with room for this many nodes.
+    pub fn open(alloc: Global, nodes: u32) -> Result<Store, NoMemory>
+        ensures empty { IfOk result (λ store. store.values ≡ []) }
+        ensures spare { IfOk result (λ store. nodes ≤ store.spare) }
+    {
+        match Vec::with_capacity(alloc, nodes as usize) {
+            Ok(nodes) => Ok(Store { nodes }),
+            Err(_) => Err(NoMemory),
+        }
+    }
+
+    /// Takes room for this many nodes more. An error is want of memory.
+    pub fn reserve(&mut self, nodes: u32) -> Result<(), NoMemory>
+        ensures spare { OnOk result (nodes ≤ self.new.spare) }
+        ensures rises { self.old.spare ≤ self.new.spare }
+        ensures values { self.new.values ≡ self.old.values }
+    {
+        match self.nodes.reserve(nodes as usize) {
+            Ok(()) => Ok(()),
+            Err(_) => Err(NoMemory),
+        }
+    }
+
+    fn add(&mut self, node: Node) -> Result<EvId, NoMemory>
+        requires names { NamesBelow (length self.old.values) node }
+        requires fits { FitsBundle (node_value self.old.values node) }
+        ensures { Adds self.old (node_value self.old.values node) result self.new }
+    {
+        let place = match push_node(&mut self.nodes, node) {
+            Ok(place) => place,
+            Err(_) => return Err(NoMemory),
+        };
+        Ok(EvId::of(place))
+    }
+
+    /// Adds no evidence.
+    pub fn empty(&mut self) -> Result<EvId, NoMemory>
+        ensures { Adds self.old evidence.empty result self.new }
+    {
+        self.add(Node::Empty)
+    }
+
+    /// Adds the nonce of a session.
+    pub fn nonce(&mut self, nonce: &[u8; 16]) -> Result<EvId, NoMemory>
+        ensures { Adds self.old (evidence.nonce nonce.now) result self.new }
+    {
+        self.add(Node::Nonce(*nonce))
+    }
+
+    /// Adds the answer of the measurement at this event, over the evidence before it; `kim` says
+    /// whether a target place was measured. The answer is copied.
+    pub fn measured(
+        &mut self,
+        event: u32,
+        kim: bool,
+        answer: &Answer,
+        under: EvId,
+    ) -> Result<EvId, NoMemory>
+        requires under { under < length self.old.values }
+        requires fits { FitsBundle (measured kim event answer.now (value_at self.old.values under)) }
+        ensures { Adds self.old (measured kim event answer.now (value_at self.old.values under)) result self.new }
+    {
+        if kim {
+            return self.add(Node::Kim(event, answer.copy(), under));
+        }
+        self.add(Node::Usm(event, answer.copy(), under))
+    }
+
+    /// Adds the seal of a place over a value, at this event of a session with that nonce, with the
+    /// value under it. It takes time linear in the value's bytes.
+    pub fn sealed(
+        &mut self,
+        event: u32,
+        place: Place,
+        nonce: &[u8; 16],
+        key: &Key,
+        under: EvId,
+    ) -> Result<EvId, NoMemory>
+        requires under { under < length self.old.values }
+        requires fits { let value = value_at self.old.values under in
+            FitsBundle (evidence.seal event (seal_of key.now place nonce.now event (encoding value)) value) }
+        ensures { let value = value_at self.old.values under in
+            Adds self.old (evidence.seal event (seal_of key.now place nonce.now event (encoding value)) value) result self.new }
+    {
+        let mut digester = Digester::seal(key, place, nonce, event);
+        feed_value(&mut digester, &self.nodes, under.index());
+        self.add(Node::Seal(event, digester.finish(), under))
+    }
+
+    /// Adds the hash that stands in place of a value, at this event. It takes time linear in the
+    /// value's bytes.
+    pub fn hashed(&mut self, event: u32, under: EvId) -> Result<EvId, NoMemory>
+        requires { under < length self.old.values }
+        ensures { Adds self.old (evidence.hash event (hash_of (encoding (value_at self.old.values under)))) result self.new }
+    {
+        let mut digester = Digester::hash();
+        feed_value(&mut digester, &self.nodes, under.index());
+        self.add(Node::Hash(event, digester.finish()))
+    }
+
+    /// Adds the pair of what the two arms of a branch made.
+    pub fn pair(&mut self, parallel: bool, left: EvId, right: EvId) -> Result<EvId, NoMemory>
+        requires left { left < length self.old.values }
+        requires right { right < length self.old.values }
+        requires fits { FitsBundle (paired parallel (value_at self.old.values left) (value_at self.old.values right)) }
+        ensures { Adds self.old (paired parallel (value_at self.old.values left) (value_at self.old.values right)) result self.new }
+    {
+        if parallel {
+            return self.add(Node::ParPair(left, right));
+        }
+        self.add(Node::SeqPair(left, right))
+    }
+
+    /// The bundle of a value, made in one allocation of its size, in time linear in it.
+    pub fn emit(&self, id: EvId) -> Result<Bytes, NoMemory>
+        requires { id < length self.now.values }
+        ensures bundle { IfOk result (λ bytes. bytes ≡ bundle (value_at self.now.values id)) }
+        ensures fits { FitsBundle (value_at self.now.values id) }
+    {
+        bundle(*self.nodes.allocator(), &self.nodes, id.index())
+    }
+}
