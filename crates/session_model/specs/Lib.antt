@@ -1,3 +1,4 @@
 pub mod Value
 pub mod Session
 pub mod Record
+pub mod RightRecord
