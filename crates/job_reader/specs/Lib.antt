@@ -1,0 +1,4 @@
+pub mod Form
+pub mod Whole
+pub mod Finding
+pub mod Accepted
