@@ -2,3 +2,5 @@ pub mod Form
 pub mod Whole
 pub mod Finding
 pub mod Accepted
+pub mod Reading
+pub mod Texts

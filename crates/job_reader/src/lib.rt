@@ -5,7 +5,16 @@
 #![tactic(auto)]
 
 mod accepted;
+mod artefacts;
+mod bundle;
+mod field;
+mod form;
+mod path;
+mod places;
+mod references;
 mod refusal;
+mod sessions;
+mod written;
 
 pub use accepted::{BundleIn, Job};
 pub use refusal::JobError;

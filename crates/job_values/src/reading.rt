@@ -1,4 +1,4 @@
-ghost use Rattle.std.specs.Prelude.{◌≡◌, not, string_bytes};
+ghost use Rattle.std.specs.Prelude.{◌≡◌, ◌≤◌, length, not, string_bytes, IfOk};
 ghost use Rattle.std.specs.BTreeMap.{keys};
 ghost use Rattle.std.specs.List.{list_any};
 ghost use Rattle.serde_json.specs.View.{items_view, view};
@@ -161,7 +161,9 @@ pub fn bytes_at(
 
 #[tactic(auto, using(crate::proofs::ItemLemmas::count_items))]
 fn list_of(value: &Value, least: u32, most: u32) -> Result<&[Value], FieldKind>
-    ensures { seen (λ items. items_view items.now) result ≡ list_of least most (view value.now) }
+    ensures read { seen (λ items. items_view items.now) result ≡ list_of least most (view value.now) }
+    ensures enough { IfOk result (λ items. least ≤ length items.now) }
+    ensures few { IfOk result (λ items. length items.now ≤ most) }
 {
     let Some(items) = value.as_array() else {
         return Err(FieldKind::WrongKind);
@@ -178,7 +180,9 @@ fn list_of(value: &Value, least: u32, most: u32) -> Result<&[Value], FieldKind>
 /// The list in a field, of `least` to `most` items: Missing, WrongKind, OutOfRange. Its items are not
 /// looked at. Takes no memory.
 pub fn list_at(object: &Value, field: Field, least: u32, most: u32) -> Result<&[Value], FieldKind>
-    ensures { seen (λ items. items_view items.now) result ≡ list_at (view object.now) field least most }
+    ensures read { seen (λ items. items_view items.now) result ≡ list_at (view object.now) field least most }
+    ensures enough { IfOk result (λ items. least ≤ length items.now) }
+    ensures few { IfOk result (λ items. length items.now ≤ most) }
 {
     match object.get(field.word()) {
         Some(value) => list_of(value, least, most),
@@ -189,7 +193,8 @@ pub fn list_at(object: &Value, field: Field, least: u32, most: u32) -> Result<&[
 /// The list in a field that may be absent, which means the empty one, of at most `most` items:
 /// WrongKind, OutOfRange. Takes no memory.
 pub fn optional_list_at(object: &Value, field: Field, most: u32) -> Result<&[Value], FieldKind>
-    ensures { seen (λ items. items_view items.now) result ≡ optional_list_at (view object.now) field most }
+    ensures read { seen (λ items. items_view items.now) result ≡ optional_list_at (view object.now) field most }
+    ensures few { IfOk result (λ items. length items.now ≤ most) }
 {
     match object.get(field.word()) {
         Some(value) => list_of(value, 0, most),
