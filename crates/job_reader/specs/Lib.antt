@@ -4,3 +4,4 @@ pub mod Finding
 pub mod Accepted
 pub mod Reading
 pub mod Texts
+pub mod Testing

@@ -1,6 +1,6 @@
 -- The tests over a whole job that is well formed, in their order; the first that finds something
 -- refuses the job. The tests are this project's own.
-use Rattle.std.specs.Prelude.{◌≡◌, ◌<◌, ◌+◌, ◌⊎◌, ℕ, false, List, [], ◌∷◌, take, Option, None, Some, nat_eq, slice_get, if◌then◌else◌}
+use Rattle.std.specs.Prelude.{◌≡◌, ◌<◌, ◌⊎◌, ℕ, suc, false, List, [], ◌∷◌, take, Option, None, Some, nat_eq, option_and_then, option_map, slice_get, if◌then◌else◌}
 use Rattle.std.specs.Cmp.Lexicographic.{pointwise}
 use Rattle.phrase_tree.specs.Term.{Term}
 use Rattle.evidence_types.specs.Weight.{oversize_at}
@@ -12,6 +12,7 @@ use Rattle.place_check.specs.declared.entry.PlaceKind.{PlaceKind}
 use Rattle.place_check.specs.Places.{is_place, repeats as place_repeats}
 use Rattle.place_check.specs.Rules.{faults}
 use Rattle.place_check.specs.Session.{IsBounded, IsCheckedAgainst}
+use Rattle.reference_book.specs.declared.reference.Reference.{Reference}
 use Rattle.reference_book.specs.References.{repeats as reference_repeats}
 use Rattle.phrase_reader.specs.declared.refusal.Kind.{Kind}
 use Rattle.phrase_reader.specs.Refusal.{IsRead, IsRefusal}
@@ -30,27 +31,27 @@ pub record IsFirstRepeat (repeats : ℕ → Option ℕ) (first second : ℕ) : T
   pub repeated : repeats second ≡ Some first
   pub least : (index : ℕ) → index < second → repeats index ≡ None
 
--- the least index that the artefact at an index repeats
-abbrev pub artefact_repeated : List Artefact → Option Artefact → Option ℕ
-artefact_repeated artefacts None = None
-artefact_repeated artefacts (Some artefact) = artefact_index artefacts artefact.place artefact.name
+-- the least index that the item at an index repeats, where an item is looked for among earlier ones
+abbrev pub repeats_by : {A : Type 0} → (List A → A → Option ℕ) → List A → ℕ → Option ℕ
+repeats_by find list index = option_and_then (find (take index list)) (slice_get list index)
+
+abbrev pub same_artefact : List Artefact → Artefact → Option ℕ
+same_artefact artefacts artefact = artefact_index artefacts artefact.place artefact.name
 
 abbrev pub artefact_repeats : List Artefact → ℕ → Option ℕ
-artefact_repeats artefacts index = artefact_repeated (take index artefacts) (slice_get artefacts index)
+artefact_repeats = repeats_by same_artefact
 
--- where the first session of this nonce stands, the first of the list counted by a number
-abbrev pub nonce_from : ℕ → List WrittenSession → List ℕ → Option ℕ
-nonce_from number [] bytes = None
-nonce_from number (session ∷ rest) bytes =
-    if pointwise nat_eq session.nonce bytes then Some number else nonce_from (number + 1) rest bytes
+-- where the first session of this nonce stands
+abbrev pub nonce_index : List WrittenSession → List ℕ → Option ℕ
+nonce_index [] bytes = None
+nonce_index (session ∷ rest) bytes =
+    if pointwise nat_eq session.nonce bytes then Some 0 else option_map suc (nonce_index rest bytes)
 
--- the least index of a session whose nonce the session at an index repeats
-abbrev pub nonce_repeated : List WrittenSession → Option WrittenSession → Option ℕ
-nonce_repeated sessions None = None
-nonce_repeated sessions (Some session) = nonce_from 0 sessions session.nonce
+abbrev pub same_nonce : List WrittenSession → WrittenSession → Option ℕ
+same_nonce sessions session = nonce_index sessions session.nonce
 
 abbrev pub nonce_repeats : List WrittenSession → ℕ → Option ℕ
-nonce_repeats sessions index = nonce_repeated (take index sessions) (slice_get sessions index)
+nonce_repeats = repeats_by same_nonce
 
 -- there is a session at this index, of which something holds
 abbrev pub IsAt : List WrittenSession → (WrittenSession → Type 0) → ℕ → Type 0
@@ -92,51 +93,73 @@ abbrev pub hindrance_error : ℕ → Hindrance → JobError
 hindrance_error session (misplaced event kind) = Misplaced session event kind
 hindrance_error session (oversize event) = Oversize session event
 
+-- what each test finds
+abbrev pub FindsTwoPlaces : List PlaceEntry → JobError → Type 0
+FindsTwoPlaces places error =
+    (first : ℕ) × (second : ℕ) × (error ≡ RepeatedPlace first second) × IsFirstRepeat (place_repeats places) first second
+
+abbrev pub FindsTwoArtefacts : List Artefact → JobError → Type 0
+FindsTwoArtefacts artefacts error =
+    (first : ℕ) × (second : ℕ) × (error ≡ RepeatedArtefact first second) × IsFirstRepeat (artefact_repeats artefacts) first second
+
+abbrev pub FindsTwoReferences : List Reference → JobError → Type 0
+FindsTwoReferences references error =
+    (first : ℕ) × (second : ℕ) × (error ≡ RepeatedReference first second) × IsFirstRepeat (reference_repeats references) first second
+
+abbrev pub FindsBadRoot : List PlaceEntry → List WrittenSession → JobError → Type 0
+FindsBadRoot places sessions error =
+    (session : ℕ) × (error ≡ BadRoot session) × IsLeast (IsAt sessions (HasNoRoot places)) session
+
+abbrev pub FindsTwoNonces : List WrittenSession → JobError → Type 0
+FindsTwoNonces sessions error =
+    (first : ℕ) × (second : ℕ) × (error ≡ RepeatedNonce first second) × IsFirstRepeat (nonce_repeats sessions) first second
+
+abbrev pub FindsBadPhrase : List WrittenSession → JobError → Type 0
+FindsBadPhrase sessions error =
+    (session : ℕ) × (place : ℕ) × (kind : Kind) × (error ≡ BadPhrase session place kind) × IsLeast (IsAt sessions IsRefused) session × IsAt sessions (λ written. IsRefusal written.phrase place kind) session
+
+abbrev pub FindsHindrance : List PlaceEntry → List WrittenSession → JobError → Type 0
+FindsHindrance places sessions error =
+    (session : ℕ) × (what : Hindrance) × (error ≡ hindrance_error session what) × IsLeast (IsAt sessions (IsHindered places)) session × IsAt sessions (IsHinderedBy places what) session
+
 -- the tests
 pub data Test : Type 0 where
   two_places : Test
   two_artefacts : Test
   two_references : Test
-  roots : Test
+  bad_root : Test
   two_nonces : Test
-  phrases : Test
+  bad_phrase : Test
   hindrances : Test
 
 -- the tests in their order
 abbrev pub tests : List Test
-tests = two_places ∷ two_artefacts ∷ two_references ∷ roots ∷ two_nonces ∷ phrases ∷ hindrances ∷ []
+tests =
+    two_places ∷ two_artefacts ∷ two_references ∷ bad_root ∷ two_nonces ∷ bad_phrase ∷ hindrances ∷ []
 
--- what a test finds in a job
 abbrev pub Finds : Test → Written → JobError → Type 0
-Finds two_places job error =
-    (first : ℕ) × (second : ℕ) × (error ≡ RepeatedPlace first second) × IsFirstRepeat (place_repeats job.places) first second
-Finds two_artefacts job error =
-    (first : ℕ) × (second : ℕ) × (error ≡ RepeatedArtefact first second) × IsFirstRepeat (artefact_repeats job.artefacts) first second
-Finds two_references job error =
-    (first : ℕ) × (second : ℕ) × (error ≡ RepeatedReference first second) × IsFirstRepeat (reference_repeats job.references) first second
-Finds roots job error =
-    (session : ℕ) × (error ≡ BadRoot session) × IsLeast (IsAt job.sessions (HasNoRoot job.places)) session
-Finds two_nonces job error =
-    (first : ℕ) × (second : ℕ) × (error ≡ RepeatedNonce first second) × IsFirstRepeat (nonce_repeats job.sessions) first second
-Finds phrases job error =
-    (session : ℕ) × (place : ℕ) × (kind : Kind) × (error ≡ BadPhrase session place kind) × IsLeast (IsAt job.sessions IsRefused) session × IsAt job.sessions (λ written. IsRefusal written.phrase place kind) session
-Finds hindrances job error =
-    (session : ℕ) × (what : Hindrance) × (error ≡ hindrance_error session what) × IsLeast (IsAt job.sessions (IsHindered job.places)) session × IsAt job.sessions (IsHinderedBy job.places what) session
+Finds two_places job error = FindsTwoPlaces job.places error
+Finds two_artefacts job error = FindsTwoArtefacts job.artefacts error
+Finds two_references job error = FindsTwoReferences job.references error
+Finds bad_root job error = FindsBadRoot job.places job.sessions error
+Finds two_nonces job error = FindsTwoNonces job.sessions error
+Finds bad_phrase job error = FindsBadPhrase job.sessions error
+Finds hindrances job error = FindsHindrance job.places job.sessions error
 
 -- a test finds nothing
-abbrev pub FindsNothing : Test → Written → Type 0
-FindsNothing test job = (error : JobError) → ¬ (Finds test job error)
+abbrev pub FindsNothing : (JobError → Type 0) → Type 0
+FindsNothing Found = (error : JobError) → ¬ (Found error)
 
 -- what the first of these tests finds that finds something
 abbrev pub FirstFinds : List Test → Written → JobError → Type 0
 FirstFinds [] job error = ⊥
 FirstFinds (test ∷ rest) job error =
-    Finds test job error ⊎ (FindsNothing test job × FirstFinds rest job error)
+    Finds test job error ⊎ (FindsNothing (Finds test job) × FirstFinds rest job error)
 
 -- none of these tests finds anything
 abbrev pub NoneFinds : List Test → Written → Type 0
 NoneFinds [] job = Unit {0}
-NoneFinds (test ∷ rest) job = FindsNothing test job × NoneFinds rest job
+NoneFinds (test ∷ rest) job = FindsNothing (Finds test job) × NoneFinds rest job
 
 -- a session as it is written, and as it is run
 pub record IsSessionOf (written : WrittenSession) (session : Session) : Type 0 where

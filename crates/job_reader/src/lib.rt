@@ -6,6 +6,7 @@
 
 mod accepted;
 mod artefacts;
+mod books;
 mod bundle;
 mod field;
 mod form;
@@ -13,6 +14,7 @@ mod path;
 mod places;
 mod references;
 mod refusal;
+mod roots;
 mod sessions;
 mod written;
 
