@@ -60,7 +60,7 @@ pub artefacts_distinct : (artefacts : List Artefact) → ((index : ℕ) → arte
 artefacts_distinct artefacts distinct error (first, second, is, found) =
     none_is_some (artefact_repeats artefacts second) first (distinct second) found.repeated
 
-length_more : {A : Type 0} (items : List A) (x : A) → length (items ++ x ∷ []) ≡ length items + 1
+pub length_more : {A : Type 0} (items : List A) (x : A) → length (items ++ x ∷ []) ≡ length items + 1
 length_more [] x = refl
 length_more (y ∷ items) x = let more = length_more items x in omega arith
 

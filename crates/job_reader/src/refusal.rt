@@ -1,6 +1,10 @@
+ghost use Rattle.std.specs.Prelude.{◌≡◌};
+ghost use Rattle.job_reader.specs.declared.refusal.JobError.TheVariants.{NoMemory};
+
 use job_values::{FieldAt, FieldKind};
 use phrase_reader::Kind;
 use place_check::PlaceKind;
+use std::alloc::AllocFailed;
 
 /// Why the bytes of a job are refused, in the order of the tests: the first that finds something
 /// decides. Want of memory may come at any point.
@@ -57,4 +61,12 @@ pub enum JobError {
         event: u32,
     },
     NoMemory,
+}
+
+impl<T: Drop> From<AllocFailed<T>> for JobError {
+    ghost from_gives = { λ _ error. error ≡ NoMemory };
+
+    fn from(_error: AllocFailed<T>) -> JobError {
+        JobError::NoMemory
+    }
 }
