@@ -48,7 +48,7 @@ read_split : (front : List ReadSession) (x : ReadSession) (rest : List ReadSessi
 read_split [] x rest = refl
 read_split (y ∷ front) x rest = ap (λ (list : List Session). read_session y ∷ list) (read_split front x rest)
 
-read_length : (front : List ReadSession) → length (read_sessions front) ≡ length front
+pub read_length : (front : List ReadSession) → length (read_sessions front) ≡ length front
 read_length [] = refl
 read_length (y ∷ front) = ap (λ n. suc n) (read_length front)
 

@@ -3,3 +3,6 @@ pub mod RepeatLemmas
 pub mod LeastLemmas
 pub mod PhraseLemmas
 pub mod CheckLemmas
+pub mod NonceLemmas
+pub mod ReadLemmas
+pub mod AcceptLemmas

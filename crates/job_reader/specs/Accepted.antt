@@ -8,7 +8,9 @@ use Rattle.session_model.specs.Session.{session_questions}
 use Rattle.job_reader.specs.declared.accepted.Job.{Job}
 use Rattle.job_reader.specs.declared.refusal.JobError.{JobError}
 use Rattle.job_reader.specs.declared.refusal.JobError.TheVariants.{NoMemory}
-use Rattle.job_reader.specs.Finding.{Finding, accepted, refused, JobView}
+use Rattle.job_reader.specs.Form.{Written}
+use Rattle.job_reader.specs.Whole.{FirstFinds, tests}
+use Rattle.job_reader.specs.Finding.{IsJobOf, Finding, accepted, refused, JobView}
 
 -- the job as clauses see it
 abbrev pub job_view : Job → JobView
@@ -40,3 +42,9 @@ HasCheckedSessions job =
 abbrev pub AskApart : Session → Session → Type 0
 AskApart session other =
     (i j : ℕ) (ask same : Ask) → slice_get (session_questions session) i ≡ Some ask → slice_get (session_questions other) j ≡ Some same → ¬ (ask ≡ same)
+
+-- the job that is written, where no test over the whole of it finds anything, or what the first test that
+-- finds something finds
+abbrev pub Accepts : Written → Result Job JobError → Type 0
+Accepts text (Ok job) = IsJobOf text (job_view job)
+Accepts text (Err error) = ¬ (error ≡ NoMemory) → FirstFinds tests text error

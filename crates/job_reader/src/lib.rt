@@ -11,6 +11,7 @@ mod bundle;
 mod checks;
 mod field;
 mod form;
+mod nonces;
 mod path;
 mod places;
 mod references;
@@ -18,6 +19,7 @@ mod phrases;
 mod refusal;
 mod roots;
 mod sessions;
+mod whole;
 mod written;
 
 pub use accepted::{BundleIn, Job};
