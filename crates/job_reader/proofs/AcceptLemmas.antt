@@ -1,8 +1,7 @@
 -- The tests over a whole job, put together.
-use Rattle.std.proofs.Common.{◌≡◌, ◌<◌, ◌⊎◌, ℕ, zero, suc, Bool, true, false, IsTrue, List, [], ◌∷◌, ◌++◌, length, map, refl, sym, ap, ◌∙◌, subst, arith, Option, None, Some, slice_get, inl, inr, Result, Ok, Err}
+use Rattle.std.proofs.Common.{◌≡◌, ◌<◌, ℕ, zero, suc, IsTrue, List, [], ◌∷◌, ◌++◌, length, refl, sym, ap, ◌∙◌, subst, arith, Option, None, Some, slice_get, inl, inr, Result, Ok, Err}
 use Rattle.std.specs.Result.{IsErrAnd}
 use Rattle.phrase_tree.specs.Term.{Term}
-use Rattle.phrase_reader.specs.Refusal.{IsRead}
 use Rattle.session_model.specs.Session.{Session}
 use Rattle.evidence_types.specs.Weight.{oversize_at}
 use Rattle.place_check.specs.declared.entry.PlaceEntry.{PlaceEntry}
@@ -12,8 +11,8 @@ use Rattle.job_reader.specs.declared.accepted.Job.{Job}
 use Rattle.job_reader.specs.declared.refusal.JobError.{JobError}
 use Rattle.job_reader.specs.declared.refusal.JobError.TheVariants.{NoMemory}
 use Rattle.job_reader.specs.Form.{Written, WrittenSession}
-use Rattle.job_reader.specs.Whole.{AreRunnable, AreSessionsOf, FindsBadPhrase, FindsBadRoot, FindsTwoArtefacts, FindsTwoNonces, FindsTwoPlaces, FindsTwoReferences, NoneFinds, FindsHindrance, FindsNothing, FirstFinds, Hindrance, hindrance, hindrance_error, hindrance_of, IsAt, IsHindered, IsHinderedBy, IsLeast, IsRunnable, IsSessionOf, tests}
-use Rattle.job_reader.specs.Testing.{AreReadFrom, AreReady, AreRooted, HoldsBefore, IsFirstHindered, IsReadFrom, IsReady, IsRooted}
+use Rattle.job_reader.specs.Whole.{AreRunnable, AreSessionsOf, FindsBadPhrase, FindsBadRoot, FindsTwoArtefacts, FindsTwoNonces, FindsTwoPlaces, FindsTwoReferences, NoneFinds, FindsHindrance, FindsNothing, FirstFinds, Hindrance, hindrance, hindrance_error, hindrance_of, IsAt, IsHindered, IsHinderedBy, IsRunnable, tests}
+use Rattle.job_reader.specs.Testing.{AreReadFrom, AreReady, AreRooted, IsFirstHindered, IsReadFrom, IsRooted}
 use Rattle.job_reader.specs.Accepted.{Accepts}
 use Rattle.job_reader.proofs.ReadLemmas.{read_once}
 

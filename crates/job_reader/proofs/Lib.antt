@@ -6,3 +6,6 @@ pub mod CheckLemmas
 pub mod NonceLemmas
 pub mod ReadLemmas
 pub mod AcceptLemmas
+pub mod RefusalLemmas
+pub mod FindingLemmas
+pub mod AnswerLemmas

@@ -1,5 +1,5 @@
 -- A text has one reading and one refusal.
-use Rattle.std.proofs.Common.{◌≡◌, List, [], ◌∷◌, ◌++◌, refl, sym, ap, ◌∙◌, subst, Option, Some, ℕ}
+use Rattle.std.proofs.Common.{◌≡◌, List, subst, Some, ℕ}
 use Rattle.phrase_tree.specs.Term.{Term}
 use Rattle.phrase_reader.specs.Refusal.{IsRead}
 use Rattle.phrase_reader.specs.Tokens.{found, tokens_of}

@@ -1,5 +1,5 @@
 -- What `job_of` answers, and what an accepted job promises.
-use Rattle.std.specs.Prelude.{◌≡◌, ℕ, map, Some, Result, Ok, Err, slice_get}
+use Rattle.std.specs.Prelude.{◌≡◌, ◌⊎◌, Bool, ℕ, map, Some, Result, Ok, Err, slice_get}
 use Rattle.place_check.specs.Session.{CheckedSession, IsBounded, IsCheckedAgainst, session_of}
 use Rattle.phrase_tree.specs.Term.{term}
 use Rattle.session_model.specs.Session.{Session}
@@ -7,8 +7,9 @@ use Rattle.bench_trait.specs.declared.ask.Ask.{Ask}
 use Rattle.session_model.specs.Session.{session_questions}
 use Rattle.job_reader.specs.declared.accepted.Job.{Job}
 use Rattle.job_reader.specs.declared.refusal.JobError.{JobError}
-use Rattle.job_reader.specs.declared.refusal.JobError.TheVariants.{NoMemory}
-use Rattle.job_reader.specs.Form.{Written}
+use Rattle.job_reader.specs.declared.refusal.JobError.TheVariants.{BadJob, NoMemory}
+use Rattle.serde_json.specs.Data.{Data}
+use Rattle.job_reader.specs.Form.{Fault, Written, written_in}
 use Rattle.job_reader.specs.Whole.{FirstFinds, tests}
 use Rattle.job_reader.specs.Finding.{IsJobOf, Finding, accepted, refused, JobView}
 
@@ -48,3 +49,10 @@ AskApart session other =
 abbrev pub Accepts : Written → Result Job JobError → Type 0
 Accepts text (Ok job) = IsJobOf text (job_view job)
 Accepts text (Err error) = ¬ (error ≡ NoMemory) → FirstFinds tests text error
+
+-- the job that is written in a tree, or its refusal
+abbrev pub AnswersTree : Bool → Data → Result Job JobError → Type 0
+AnswersTree appraise tree (Ok job) =
+    (text : Written) × (written_in appraise tree ≡ Ok text) × IsJobOf text (job_view job)
+AnswersTree appraise tree (Err error) =
+    ¬ (error ≡ NoMemory) → ((fault : Fault) × (written_in appraise tree ≡ Err fault) × (error ≡ BadJob fault.at fault.kind)) ⊎ ((text : Written) × (written_in appraise tree ≡ Ok text) × FirstFinds tests text error)

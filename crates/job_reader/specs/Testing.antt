@@ -1,6 +1,6 @@
 -- What the functions that test a whole job answer.
-use Rattle.std.specs.Prelude.{[], ◌∷◌, ◌≡◌, ◌++◌, IsTrue, ℕ, List, Option, None, Some, map, Result, Ok, Err, slice_get, length, ◌<◌}
-use Rattle.phrase_tree.specs.Term.{Term, term}
+use Rattle.std.specs.Prelude.{[], ◌∷◌, ◌≡◌, ◌++◌, IsTrue, ℕ, List, None, Some, map, Result, Ok, Err, slice_get, length, ◌<◌}
+use Rattle.phrase_tree.specs.Term.{term}
 use Rattle.phrase_tree.specs.Numbering.{IsSized}
 use Rattle.session_model.specs.Session.{Session}
 use Rattle.place_check.specs.declared.entry.PlaceEntry.{PlaceEntry}

@@ -13,9 +13,10 @@ mod field;
 mod form;
 mod nonces;
 mod path;
-mod places;
-mod references;
 mod phrases;
+mod places;
+mod reading;
+mod references;
 mod refusal;
 mod roots;
 mod sessions;
@@ -23,4 +24,5 @@ mod whole;
 mod written;
 
 pub use accepted::{BundleIn, Job};
+pub use reading::job_of;
 pub use refusal::JobError;

@@ -1,5 +1,5 @@
 -- The index is as before but for the new nonce.
-use Rattle.std.proofs.Common.{◌≡◌, Some, None, ap, cond, ◌∙◌, sym}
+use Rattle.std.proofs.Common.{Some, ap, cond, ◌∙◌, sym}
 use Rattle.std.specs.BTreeMap as index
 use Rattle.std.proofs.lemmas.Map.Text.{is_eq-slice_cmp}
 use Rattle.job_reader.specs.Testing.{nonce_cmp}

@@ -1,5 +1,5 @@
 -- The first four tests come to nothing; then each of the others finds something, or none does.
-use Rattle.std.proofs.Common.{◌≡◌, List, length, arith, refl, sym, subst}
+use Rattle.std.proofs.Common.{List, arith, refl, sym, subst}
 use Rattle.session_model.specs.Session.{Session}
 use Rattle.job_reader.specs.Texts.{written}
 use Rattle.job_reader.specs.Testing.{read_sessions}
@@ -61,8 +61,8 @@ returns-in_err-sessions c =
     } in
     let error = c.in_err-sessions.field-0.0 in
     accepts_error text c.from_residual-in_err-sessions.result error c.from_residual-in_err-sessions.ensures.1 (λ other.
-          let (index, what, named, first) = c.in_err-sessions.ensures other in
-          seventh_finds text places error four (rw c.deref-2.ensures.value at c.in_ok-check_nonces.ensures.0) (rw c.deref-3.ensures.value at c.in_ok-read.ensures.0) (hindrance_found places text.sessions found index what error (rw c.deref-3.ensures.value at c.in_ok-read.ensures.1) first named))
+    let (index, what, named, first) = c.in_err-sessions.ensures other in
+    seventh_finds text places error four (rw c.deref-2.ensures.value at c.in_ok-check_nonces.ensures.0) (rw c.deref-3.ensures.value at c.in_ok-read.ensures.0) (hindrance_found places text.sessions found index what error (rw c.deref-3.ensures.value at c.in_ok-read.ensures.1) first named))
 
 pub returns : goal.returns
 returns c =
@@ -82,7 +82,7 @@ returns c =
       places = c.in_ok-places.ensures.1;
       artefacts = c.in_ok-artefacts.ensures.1;
       sessions =
-        subst (λ (list : List Session). AreSessionsOf text.sessions list) (sym kept.same) (read_sessions_of text.sessions found all);
+          subst (λ (list : List Session). AreSessionsOf text.sessions list) (sym kept.same) (read_sessions_of text.sessions found all);
       references = c.in_ok-references.ensures.1;
       bundle = refl;
       runnable = subst (λ (list : List Session). AreRunnable places list) (sym kept.same) kept.runnable;
