@@ -78,6 +78,3 @@ exactly bytes appraise one finding is = (
 pub answer_exact : (bytes : List ℕ) (appraise : Bool) (tree : Data) (answer : Result Job JobError) → IsTreeOf bytes tree → AnswersTree appraise tree answer → (finding : Finding) → UnlessNoMemory answer ((finding_of answer ≡ finding) ↔ IsFinding bytes appraise finding)
 answer_exact bytes appraise tree answer of_bytes answers finding =
     unless answer ((finding_of answer ≡ finding) ↔ IsFinding bytes appraise finding) (λ other. exactly bytes appraise (finding_of answer) finding (tree_finding bytes appraise tree answer of_bytes answers other))
-
-pub no_json_exact : (bytes : List ℕ) (appraise : Bool) → IsFinding bytes appraise (refused NotJson) → (finding : Finding) → (refused NotJson ≡ finding) ↔ IsFinding bytes appraise finding
-no_json_exact bytes appraise is finding = exactly bytes appraise (refused NotJson) finding is

@@ -9,3 +9,4 @@ pub mod AcceptLemmas
 pub mod RefusalLemmas
 pub mod FindingLemmas
 pub mod AnswerLemmas
+pub mod AskLemmas

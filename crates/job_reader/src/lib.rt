@@ -11,6 +11,7 @@ mod bundle;
 mod checks;
 mod field;
 mod form;
+mod laws;
 mod nonces;
 mod path;
 mod phrases;
@@ -24,5 +25,6 @@ mod whole;
 mod written;
 
 pub use accepted::{BundleIn, Job};
+pub use laws::{one_finding, sessions_ask_apart};
 pub use reading::job_of;
 pub use refusal::JobError;
