@@ -1,5 +1,5 @@
 -- What `job_of` answers is the finding of the bytes.
-use Rattle.std.proofs.Common.{refl, ◌≡◌, ◌↔◌, ℕ, zero, suc, Bool, List, [], ◌∷◌, map, sym, ap, subst, Some, Result, Ok, Err, slice_get, inl, inr, IfOk}
+use Rattle.std.proofs.Common.{◌∙◌, refl, ◌≡◌, ◌↔◌, ℕ, zero, suc, Bool, List, [], ◌∷◌, map, sym, ap, subst, Some, Result, Ok, Err, slice_get, inl, inr, IfOk}
 use Rattle.serde_json.specs.Data.{Data}
 use Rattle.phrase_tree.specs.Term.{term}
 use Rattle.place_check.specs.declared.entry.PlaceEntry.{PlaceEntry}
@@ -7,6 +7,8 @@ use Rattle.place_check.specs.Session.{CheckedSession, IsBounded, IsCheckedAgains
 use Rattle.job_reader.specs.declared.accepted.Job.{Job}
 use Rattle.job_reader.specs.declared.refusal.JobError.{JobError}
 use Rattle.job_reader.specs.declared.refusal.JobError.TheVariants.{NotJson, BadJob, RepeatedPlace, RepeatedArtefact, RepeatedReference, BadRoot, RepeatedNonce, BadPhrase, Misplaced, Oversize, NoMemory}
+use Rattle.std.specs.Result.{result_err}
+use Rattle.job_reader.proofs.FaultLemmas.{first_fault}
 use Rattle.job_reader.specs.Form.{Fault, Written}
 use Rattle.job_reader.specs.Whole.{AreRunnable}
 use Rattle.job_reader.specs.Finding.{Finding, HasFault, IsFinding, IsTreeOf, refused}
@@ -55,7 +57,7 @@ tree_finding bytes appraise tree (Ok job) of_bytes (text, formed, whole) other =
 }
 tree_finding bytes appraise tree (Err error) of_bytes answers other =
     elim (answers (λ same. other (ap (λ e. Err e) same))) [
-      | inl found ↦ fault_finding bytes appraise found.0 error found.2 (record { tree = tree; of_bytes = of_bytes; faulty = found.1 })
+      | inl found ↦ fault_finding bytes appraise found.0 error found.2 (record { tree = tree; of_bytes = of_bytes; faulty = first_fault appraise tree ∙ ap result_err found.1 })
       | inr found ↦ refused_finding bytes appraise error (record {
         job = found.0;
         written = record { tree = tree; of_bytes = of_bytes; formed = found.1 };

@@ -1,5 +1,5 @@
 -- Bytes have one finding.
-use Rattle.std.proofs.Common.{◌≡◌, ◌<◌, ◌⊎◌, ℕ, Bool, List, [], ◌∷◌, refl, sym, ap, ◌∙◌, subst, arith, Option, None, Some, Ok, Err, slice_get, inl, inr}
+use Rattle.std.proofs.Common.{◌≡◌, ◌<◌, ◌⊎◌, ℕ, Bool, List, [], ◌∷◌, refl, sym, ap, ◌∙◌, subst, arith, Option, None, Some, Ok, slice_get, inl, inr}
 use Rattle.std.proofs.lemmas.Bool.{cases_lt, cases_eq}
 use Rattle.serde_json.specs.Data.{Data}
 use Rattle.serde_json.specs.Read.{read as read_text}
@@ -9,6 +9,9 @@ use Rattle.session_model.specs.Session.{Session}
 use Rattle.place_check.specs.declared.entry.PlaceEntry.{PlaceEntry}
 use Rattle.job_reader.specs.declared.refusal.JobError.{JobError}
 use Rattle.job_reader.specs.declared.refusal.JobError.TheVariants.{NotJson, BadJob, RepeatedPlace, RepeatedArtefact, RepeatedReference, BadRoot, RepeatedNonce, BadPhrase, Misplaced, Oversize, NoMemory}
+use Rattle.std.specs.Result.{result_err}
+use Rattle.job_reader.specs.Faults.{first, job_faults}
+use Rattle.job_reader.proofs.FaultLemmas.{first_fault}
 use Rattle.job_reader.specs.Form.{Fault, Written, WrittenSession, written_in}
 use Rattle.job_reader.specs.Whole.{AreSessionsOf, Finds, FirstFinds, Hindrance, hindrance, hindrance_error, misplaced, oversize, IsFirstRepeat, IsHinderedBy, IsLeast, IsSessionOf, NoneFinds, Test, two_places, two_artefacts, two_references, bad_root, two_nonces, bad_phrase, hindrances, tests}
 use Rattle.job_reader.specs.Finding.{accepted, Finding, HasFault, IsAccepted, IsFinding, IsJobOf, IsNoJson, IsRefusedFor, IsTreeOf, IsWritten, JobView, refused}
@@ -146,7 +149,7 @@ no_tree bytes tree none is = none_is_some (read_text bytes) tree (none is.utf8) 
 one_fault : (bytes : List ℕ) (appraise : Bool) (fault other : Fault) → HasFault bytes appraise fault → HasFault bytes appraise other → fault ≡ other
 one_fault bytes appraise fault other one two =
     let same = one_tree bytes one.tree two.tree one.of_bytes two.of_bytes in
-    let again : written_in appraise one.tree ≡ Err other = subst (λ (tree : Data). written_in appraise tree ≡ Err other) same two.faulty in
+    let again : first (job_faults appraise one.tree) ≡ Some other = subst (λ (tree : Data). first (job_faults appraise tree) ≡ Some other) same two.faulty in
     let faulty = one.faulty in
     cc
 
@@ -154,8 +157,7 @@ no_fault : (bytes : List ℕ) (appraise : Bool) (fault : Fault) (job : Written) 
 no_fault bytes appraise fault job one two =
     let same = one_tree bytes one.tree two.tree one.of_bytes two.of_bytes in
     let again : written_in appraise one.tree ≡ Ok job = subst (λ (tree : Data). written_in appraise tree ≡ Ok job) same two.formed in
-    let faulty = one.faulty in
-    cc
+    none_is_some (first (job_faults appraise one.tree)) fault (first_fault appraise one.tree ∙ ap result_err again) one.faulty
 
 one_written : (bytes : List ℕ) (appraise : Bool) (job other : Written) → IsWritten bytes appraise job → IsWritten bytes appraise other → other ≡ job
 one_written bytes appraise job other one two =

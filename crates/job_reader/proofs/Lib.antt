@@ -11,3 +11,4 @@ pub mod FindingLemmas
 pub mod AnswerLemmas
 pub mod AskLemmas
 mod WorkedForm
+pub mod FaultLemmas

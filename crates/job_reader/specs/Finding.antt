@@ -1,5 +1,5 @@
 -- What the bytes of a job turn out to be: an accepted job, or one refusal.
-use Rattle.std.specs.Prelude.{◌≡◌, ℕ, Bool, List, Option, None, Some, Ok, Err, IsUtf8}
+use Rattle.std.specs.Prelude.{◌≡◌, ℕ, Bool, List, Option, None, Some, Ok, IsUtf8}
 use Rattle.serde_json.specs.Data.{Data}
 use Rattle.serde_json.specs.Read.{read as read_text}
 use Rattle.session_model.specs.Session.{Session}
@@ -9,6 +9,7 @@ use Rattle.reference_book.specs.declared.reference.Reference.{Reference}
 use Rattle.job_reader.specs.declared.accepted.BundleIn.{BundleIn}
 use Rattle.job_reader.specs.declared.refusal.JobError.{JobError}
 use Rattle.job_reader.specs.declared.refusal.JobError.TheVariants.{NotJson, BadJob, RepeatedPlace, RepeatedArtefact, RepeatedReference, BadRoot, RepeatedNonce, BadPhrase, Misplaced, Oversize, NoMemory}
+use Rattle.job_reader.specs.Faults.{first, job_faults}
 use Rattle.job_reader.specs.Form.{Fault, Written, written_in}
 use Rattle.job_reader.specs.Whole.{AreRunnable, AreSessionsOf, FirstFinds, NoneFinds, tests}
 
@@ -34,11 +35,11 @@ pub record IsTreeOf (bytes : List ℕ) (tree : Data) : Type 0 where
   pub utf8 : IsUtf8 bytes
   pub read : read_text bytes ≡ Some tree
 
--- the bytes are a tree whose first fault of form is this
+-- the bytes are a tree, and this is the first of its faults of form
 pub record HasFault (bytes : List ℕ) (appraise : Bool) (fault : Fault) : Type 0 where
   pub tree : Data
   pub of_bytes : IsTreeOf bytes tree
-  pub faulty : written_in appraise tree ≡ Err fault
+  pub faulty : first (job_faults appraise tree) ≡ Some fault
 
 -- the bytes are a tree without a fault of form, and this is the job that is written there
 pub record IsWritten (bytes : List ℕ) (appraise : Bool) (job : Written) : Type 0 where

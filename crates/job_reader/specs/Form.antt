@@ -1,6 +1,6 @@
--- The form of a job: the walk over its tree. An object's fields are read in the order of their table, a
--- list's items by index, each part wholly before the next, so that what is wrong first decides. The
--- table is this project's own.
+-- The job that is written in a tree, with the table of its fields. An object's fields are read in the
+-- order of the table, a list's items by index, each part wholly before the next; where the tree has
+-- faults of form there is no job, but the fault at which the walk stops. The table is this project's own.
 use Rattle.std.specs.Prelude.{◌+◌, ◌-◌, ℕ, Bool, not, List, [], ◌∷◌, length, Option, None, Some, Result, Ok, Err, is_some, if◌then◌else◌}
 use Rattle.serde_json.specs.Data.{Data, Items, no_items, item}
 use Rattle.serde_json.specs.Find.{get, as_object}

@@ -1,4 +1,5 @@
 pub mod Form
+pub mod Faults
 pub mod Whole
 pub mod Finding
 pub mod Accepted

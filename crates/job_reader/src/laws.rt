@@ -1,7 +1,17 @@
 ghost use Rattle.std.specs.Prelude.{◌≡◌, ℕ, Some, slice_get};
 ghost use Rattle.session_model.specs.Session.{Session};
+ghost use Rattle.std.specs.Result.{result_err};
+ghost use Rattle.serde_json.specs.Data.{Data};
 ghost use Rattle.job_reader.specs.Accepted.{AskApart};
+ghost use Rattle.job_reader.specs.Faults.{first, job_faults};
 ghost use Rattle.job_reader.specs.Finding.{Finding, IsAccepted, IsFinding, JobView};
+ghost use Rattle.job_reader.specs.Form.{written_in};
+
+/// A law: a tree has no fault of form exactly where a job is written in it, and else the walk over it
+/// stops at the first of its faults. It does nothing.
+pub fn walk_stops_at_the_first_fault(_appraise: bool)
+    ensures { (tree : Data) → first (job_faults _appraise tree) ≡ result_err (written_in _appraise tree) }
+{}
 
 /// A law: the bytes of a job have one finding, with or without an appraisal. It does nothing.
 pub fn one_finding(_bytes: &[u8], _appraise: bool)

@@ -1,7 +1,8 @@
 //! Reads a job: one JSON text to places, artefacts, sessions, references and a bundle, or to its first
-//! refusal. `specs/Form.antt` has the walk over the tree, whose first fault refuses a job of bad form;
-//! `specs/Whole.antt` the seven tests over the whole job, in their order; `specs/Finding.antt` what the
-//! bytes of a job turn out to be. The format is this project's own.
+//! refusal. `specs/Faults.antt` lists the faults of form of a tree, the first of which refuses the job;
+//! `specs/Form.antt` has the job that is written in a tree without one; `specs/Whole.antt` the seven
+//! tests over the whole job, in their order; `specs/Finding.antt` what the bytes of a job turn out to
+//! be. The format is this project's own.
 #![tactic(auto)]
 
 mod accepted;
@@ -27,6 +28,6 @@ mod whole;
 mod written;
 
 pub use accepted::{BundleIn, Job};
-pub use laws::{one_finding, sessions_ask_apart};
+pub use laws::{one_finding, sessions_ask_apart, walk_stops_at_the_first_fault};
 pub use reading::job_of;
 pub use refusal::JobError;
