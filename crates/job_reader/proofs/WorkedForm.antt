@@ -1,5 +1,5 @@
 -- Faults of form that were worked by hand: an edit of the definitions is refused here.
-use Rattle.std.proofs.Common.{◌≡◌, true, false, [], Err, refl}
+use Rattle.std.proofs.Common.{◌≡◌, true, false, [], ◌∷◌, Err, refl}
 use Rattle.std.specs.Prelude.{codes}
 use Rattle.hex.proofs.OnLiterals.{hex_on_literals}
 use Rattle.serde_json.specs.Data.{null, number, unsigned, string, array, object, no_items, item, no_members, member}
@@ -7,8 +7,9 @@ use Rattle.job_values.specs.declared.words.Field.TheVariants as fields
 use Rattle.job_values.specs.declared.place.Section.TheVariants as sections
 use Rattle.job_values.specs.declared.place.FieldAt.{FieldAt}
 use Rattle.job_values.specs.declared.place.FieldKind.{FieldKind}
-use Rattle.job_values.specs.declared.place.FieldKind.TheVariants.{Missing, WrongKind, OutOfRange, Unknown}
-use Rattle.job_reader.specs.Form.{artefact_in, bundle_in, bundle_of, Fault, field_of, names_in, place_in, top_field, whole, written_in}
+use Rattle.job_values.specs.declared.place.FieldKind.TheVariants.{Missing, WrongKind, BadName, OutOfRange, Unknown}
+use Rattle.job_reader.specs.Faults.{job_faults, place_faults}
+use Rattle.job_reader.specs.Form.{item_of, artefact_in, bundle_in, bundle_of, Fault, field_of, names_in, place_in, top_field, whole, written_in}
 
 abbrev fault : FieldAt → FieldKind → Fault
 fault at kind = record { at = at; kind = kind }
@@ -42,3 +43,15 @@ a_bundle_of_no_session = refl
 
 no_bundle : bundle_in true 2 (object no_members) ≡ Err (fault (top_field fields.Bundle) Missing)
 no_bundle = refl
+
+-- all that is wrong with a place, in order
+the_faults_of_a_place : place_faults 0 (object (member (codes "asks") (array (item null (item (string (codes "q")) (item (string []) no_items)))) (member (codes "x") null no_members))) ≡ fault (field_of sections.Places 0 fields.Name) Missing ∷ fault (field_of sections.Places 0 fields.Key) Missing ∷ fault (item_of sections.Places 0 fields.Asks 0) WrongKind ∷ fault (item_of sections.Places 0 fields.Asks 2) BadName ∷ fault (whole sections.Places 0) Unknown ∷ []
+the_faults_of_a_place = refl
+
+-- what is no object has that fault alone
+no_place : place_faults 7 null ≡ fault (whole sections.Places 7) WrongKind ∷ []
+no_place = refl
+
+-- a list of a wrong length has that fault alone
+no_sessions : job_faults true (object (member (codes "sessions") (array no_items) no_members)) ≡ fault (top_field fields.Places) Missing ∷ fault (top_field fields.Sessions) OutOfRange ∷ fault (top_field fields.Bundle) Missing ∷ []
+no_sessions = refl
