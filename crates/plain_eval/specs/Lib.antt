@@ -1,2 +1,4 @@
 pub mod Keyed
 pub mod Evaluating
+pub mod Gathering
+pub mod Walking
