@@ -1,7 +1,8 @@
 ghost use Rattle.std.specs.Prelude.{◌≡◌, ◌+◌, ◌^◌, ◌<◌, IfOk, IsSome};
 ghost use Rattle.phrase_tree.specs.Term.{term};
 ghost use Rattle.phrase_tree.specs.Numbering.{event_count, IsSized};
-ghost use Rattle.evidence_types.specs.Answers.{answer_at};
+ghost use Rattle.evidence_types.specs.Answer.{FitsAnswer};
+ghost use Rattle.evidence_types.specs.Answers.{IsRising, answer_at};
 ghost use Rattle.evidence_types.specs.Bytes.{encoding};
 ghost use Rattle.evidence_types.specs.Evidence.{evidence, usm as measured, kim as measured_at, seal, hash};
 ghost use Rattle.seal_hmac.specs.Keys.{key_of, key_at};
@@ -33,16 +34,34 @@ struct Made {
     next: u32,
 }
 
-/// The answer of an event; an empty one where there is none.
+/// The answer of an event; an empty one where there is none. It looks in one half of the pairs at
+/// each step, since their events rise.
+#[tactic(auto, using(crate::proofs::AnswerLemmas::rising_take, crate::proofs::AnswerLemmas::rising_drop, crate::proofs::AnswerLemmas::fewer))]
 fn answer_of(pairs: &[(u32, Answer)], event: u32) -> Answer
-    ensures { result ≡ answer_at pairs.now event }
+    requires { IsRising pairs.now }
+    ensures answer { result ≡ answer_at pairs.now event }
+    ensures few { FitsAnswer result }
 {
-    for pair in pairs {
-        if pair.0 == event {
-            return pair.1.copy();
-        }
+    let middle = pairs.len() / 2;
+    let Some(pair) = pairs.get(middle) else {
+        return copied(&[]);
+    };
+    if pair.0 == event {
+        return copied(pair.1.bytes());
     }
-    Answer::of(&[]).unwrap()
+    if event < pair.0 {
+        return answer_of(&pairs[..middle], event);
+    }
+    answer_of(&pairs[middle + 1..], event)
+}
+
+/// An answer with these bytes.
+fn copied(bytes: &[u8]) -> Answer
+    requires { FitsAnswer bytes.now }
+    ensures answer { result ≡ bytes.now }
+    ensures few { FitsAnswer result }
+{
+    Answer::of(bytes).unwrap()
 }
 
 /// What the two arms of a branch get of the evidence before it.
