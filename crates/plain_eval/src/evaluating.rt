@@ -3,12 +3,14 @@ ghost use Rattle.phrase_tree.specs.Term.{term};
 ghost use Rattle.phrase_tree.specs.Numbering.{event_count, IsSized};
 ghost use Rattle.evidence_types.specs.Answer.{FitsAnswer};
 ghost use Rattle.evidence_types.specs.Answers.{IsRising, answer_at};
-ghost use Rattle.evidence_types.specs.Bytes.{encoding};
+ghost use Rattle.evidence_types.specs.Bytes.{FitsBundle, encoding};
 ghost use Rattle.evidence_types.specs.Evidence.{evidence, usm as measured, kim as measured_at, seal, hash};
+ghost use Rattle.evidence_types.specs.Weight.{IsLight};
 ghost use Rattle.seal_hmac.specs.Keys.{key_of, key_at};
 ghost use Rattle.seal_hmac.specs.Seal.{seal_of, hash_of};
 ghost use Rattle.session_model.specs.Value.{Makings, part, value_of, session_value};
 ghost use Rattle.plain_eval.specs.Keyed.{HasKeys};
+ghost use Rattle.plain_eval.specs.Short.{HasShortAnswers};
 ghost use Rattle.plain_eval.specs.Evaluating.{makings};
 
 use crate::copying::copy;
@@ -125,7 +127,8 @@ fn usm(
     event: u32,
     before: Box<Value>,
 ) -> Result<Box<Value>, NoMemory>
-    ensures { IfOk result (λ made. evidence made.value ≡ measured event (answer_at from.now.answers.now event) (evidence before.value)) }
+    ensures value { IfOk result (λ made. evidence made.value ≡ measured event (answer_at from.now.answers.now event) (evidence before.value)) }
+    ensures short { FitsAnswer (answer_at from.now.answers.now event) }
 {
     let answer = answer_of(from.answers.items(), event);
     nodes::usm(alloc, event, &answer, before)
@@ -137,7 +140,8 @@ fn kim(
     event: u32,
     before: Box<Value>,
 ) -> Result<Box<Value>, NoMemory>
-    ensures { IfOk result (λ made. evidence made.value ≡ measured_at event (answer_at from.now.answers.now event) (evidence before.value)) }
+    ensures value { IfOk result (λ made. evidence made.value ≡ measured_at event (answer_at from.now.answers.now event) (evidence before.value)) }
+    ensures short { FitsAnswer (answer_at from.now.answers.now event) }
 {
     let answer = answer_of(from.answers.items(), event);
     nodes::kim(alloc, event, &answer, before)
@@ -156,6 +160,7 @@ fn value_of(
     requires keys { HasKeys (term phrase.now) place from.now.keys.now }
     ensures value { IfOk result (λ made. evidence made.value.value ≡ value_of (term phrase.now) place first (evidence before.value) (makings from.now)) }
     ensures next { IfOk result (λ made. made.next ≡ first + event_count (term phrase.now)) }
+    ensures short { IfOk result (λ made. HasShortAnswers (term phrase.now) first from.now.answers.now) }
 {
     match phrase {
         Phrase::Cpy => Ok(Made {
@@ -238,7 +243,9 @@ pub fn eval(
 ) -> Result<Value, NoMemory>
     requires sized { IsSized (term phrase.now) }
     requires keys { HasKeys (term phrase.now) place keys.now }
-    ensures { IfOk result (λ value. evidence value ≡ session_value (term phrase.now) place (record { nonce = nonce.now; answers = answers.now; keys = keys.now })) }
+    ensures value { IfOk result (λ value. evidence value ≡ session_value (term phrase.now) place (record { nonce = nonce.now; answers = answers.now; keys = keys.now })) }
+    // So the value of a phrase that is nowhere oversize can be written as a bundle.
+    ensures fits { IsLight (term phrase.now) → IfOk result (λ value. FitsBundle (evidence value)) }
 {
     let before = nodes::nonce(alloc, nonce)?;
     let from = Materials {

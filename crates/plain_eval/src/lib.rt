@@ -16,4 +16,4 @@ mod tests;
 
 pub use evaluating::eval;
 pub use gathering::{Gathered, gather, gather_session};
-pub use laws::events_have_the_keys_of_seals;
+pub use laws::{events_have_the_keys_of_seals, value_fits_bundle};
