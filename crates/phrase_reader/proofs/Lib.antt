@@ -9,4 +9,5 @@ pub mod Verdicts
 pub mod Lexing
 pub mod Progress
 pub mod Enclosed
+pub mod Readings
 mod Rows
