@@ -10,4 +10,9 @@ pub mod Lexing
 pub mod Progress
 pub mod Enclosed
 pub mod Readings
+pub mod WordTokens
+pub mod Pieces
+pub mod CanonicalTokens
+pub mod Limits
+pub mod RoundTrip
 mod Rows

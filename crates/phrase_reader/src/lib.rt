@@ -14,7 +14,7 @@ mod state;
 mod tests;
 mod token;
 
-pub use laws::reading_law;
+pub use laws::{print_law, reading_law};
 pub use printer::print;
 pub use reader::read;
 pub use refusal::{Kind, ReadError};
