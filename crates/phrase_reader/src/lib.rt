@@ -3,6 +3,7 @@
 //! stack of open brackets, in time linear in the text.
 #![tactic(auto)]
 
+mod laws;
 mod lexeme;
 mod piece;
 mod printer;
@@ -13,6 +14,7 @@ mod state;
 mod tests;
 mod token;
 
+pub use laws::{print_law, reading_law};
 pub use printer::print;
 pub use reader::read;
 pub use refusal::{Kind, ReadError};
