@@ -1,1 +1,4 @@
 pub mod KeyLemmas
+pub mod GatherLemmas
+pub mod AnswerLemmas
+pub mod BundleLemmas

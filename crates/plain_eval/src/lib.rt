@@ -8,10 +8,12 @@
 mod copying;
 mod digesting;
 mod evaluating;
+mod gathering;
 mod laws;
 mod nodes;
 #[cfg(test)]
 mod tests;
 
 pub use evaluating::eval;
-pub use laws::events_have_the_keys_of_seals;
+pub use gathering::{Gathered, gather, gather_session};
+pub use laws::{events_have_the_keys_of_seals, value_fits_bundle};
