@@ -10,6 +10,7 @@ pub mod Lexing
 pub mod Progress
 pub mod Enclosed
 pub mod Readings
+pub mod Outcomes
 pub mod WordTokens
 pub mod Pieces
 pub mod CanonicalTokens

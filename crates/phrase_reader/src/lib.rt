@@ -1,6 +1,7 @@
 //! Reads and prints the text of a phrase. The whole grammar, the tokens and the nine refusals stand in
 //! `specs/` as relations on whole texts and lists of tokens; the code goes over the bytes once, with a
-//! stack of open brackets, in time linear in the text.
+//! stack of open brackets, in time linear in the text. Each text has one reading alone, a phrase or a
+//! refusal, and the canonical text of a phrase is read as that phrase: two laws.
 #![tactic(auto)]
 
 mod laws;
