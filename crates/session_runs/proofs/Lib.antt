@@ -1,0 +1,2 @@
+mod WorkedSchedules
+mod WorkedSessions

@@ -1,0 +1,8 @@
+//! What a running session means: partly executed phrases and their moves, the legal histories of a
+//! session, and the laws that they keep. Definitions and laws alone, over phrases and whole lists, for
+//! the crates that run sessions; they know no instruction, stack, offset, lock or thread.
+#![tactic(auto)]
+
+mod wrong;
+
+pub use wrong::wrong_histories;
