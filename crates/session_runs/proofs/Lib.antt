@@ -1,2 +1,5 @@
 mod WorkedSchedules
 mod WorkedSessions
+pub mod Induction
+pub mod EntryLaws
+pub mod CountLaws

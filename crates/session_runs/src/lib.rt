@@ -3,6 +3,8 @@
 //! the crates that run sessions; they know no instruction, stack, offset, lock or thread.
 #![tactic(auto)]
 
+mod laws;
 mod wrong;
 
+pub use laws::length_law;
 pub use wrong::wrong_histories;
