@@ -3,3 +3,6 @@ mod WorkedSessions
 pub mod Induction
 pub mod EntryLaws
 pub mod CountLaws
+pub mod Rest
+pub mod RestLaws
+pub mod TraceLaws
