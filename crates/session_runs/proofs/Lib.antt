@@ -6,3 +6,6 @@ pub mod CountLaws
 pub mod Rest
 pub mod RestLaws
 pub mod TraceLaws
+pub mod Waiting
+pub mod ChoiceLaws
+pub mod ProgressLaws

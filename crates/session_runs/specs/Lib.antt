@@ -3,6 +3,7 @@ pub mod Moves
 pub mod Standing
 pub mod History
 pub mod Owner
+pub mod Progress
 pub mod MoveOrder
 pub mod Schedule
 pub mod WrongHistories

@@ -2,8 +2,10 @@ ghost use Rattle.std.specs.Prelude.{◌≡◌, ◌+◌, ◌*◌, ◌≤◌, ℕ,
 ghost use Rattle.phrase_tree.specs.Numbering.{event_count};
 ghost use Rattle.event_system.specs.Trace.{IsTraceSoFar};
 ghost use Rattle.session_model.specs.Session.{Session};
-ghost use Rattle.session_runs.specs.Standing.{Entry, Standing};
+ghost use Rattle.session_runs.specs.Standing.{Block, Entry, is_open, Standing};
 ghost use Rattle.session_runs.specs.History.{standing_after};
+ghost use Rattle.session_runs.specs.MoveOrder.{ready_of};
+ghost use Rattle.session_runs.specs.Progress.{IsNotStuck, movers_in};
 
 /// The law of length: a history of a session whose phrase has e events has at most 2e + 2 entries,
 /// its opening among them.
@@ -18,4 +20,20 @@ pub fn trace_law()
     ensures { (session : Session) (keys : List (List ℕ × List ℕ)) (history : List Entry) (standing : Standing) →
         standing_after session keys history ≡ Some standing →
         IsTraceSoFar session.phrase 0 standing.trace }
+{}
+
+/// The law of progress: while a session is open, every pass can make a move, or an ask is in flight.
+pub fn progress_law()
+    ensures { (session : Session) (keys : List (List ℕ × List ℕ)) (history : List Entry) (standing : Standing) (pass : ℕ) →
+        standing_after session keys history ≡ Some standing →
+        standing.state ≡ is_open →
+        IsNotStuck session keys standing pass }
+{}
+
+/// The law of choice: after every history at most one configuration can move in each block, so that a
+/// history alone fixes how its session stands.
+pub fn choice_law()
+    ensures { (session : Session) (keys : List (List ℕ × List ℕ)) (history : List Entry) (standing : Standing) (block : Block) →
+        standing_after session keys history ≡ Some standing →
+        movers_in block (ready_of standing.configuration) ≤ 1 }
 {}

@@ -6,5 +6,5 @@
 mod laws;
 mod wrong;
 
-pub use laws::{length_law, trace_law};
+pub use laws::{choice_law, length_law, progress_law, trace_law};
 pub use wrong::wrong_histories;
