@@ -9,3 +9,6 @@ pub mod TraceLaws
 pub mod Waiting
 pub mod ChoiceLaws
 pub mod ProgressLaws
+pub mod ValueLaws
+pub mod QuestionLaws
+pub mod RecordLaws

@@ -2,10 +2,14 @@ ghost use Rattle.std.specs.Prelude.{◌≡◌, ◌+◌, ◌*◌, ◌≤◌, ℕ,
 ghost use Rattle.phrase_tree.specs.Numbering.{event_count};
 ghost use Rattle.event_system.specs.Trace.{IsTraceSoFar};
 ghost use Rattle.session_model.specs.Session.{Session};
+ghost use Rattle.session_model.specs.Record.{Record};
+ghost use Rattle.session_model.specs.RightRecord.{IsRightRecord};
 ghost use Rattle.session_runs.specs.Standing.{Block, Entry, is_open, Standing};
-ghost use Rattle.session_runs.specs.History.{standing_after};
+ghost use Rattle.session_runs.specs.History.{standing_after, IsLegal, record_of};
 ghost use Rattle.session_runs.specs.MoveOrder.{ready_of};
 ghost use Rattle.session_runs.specs.Progress.{IsNotStuck, movers_in};
+
+use bench_trait::{ArtefactBook, Bench};
 
 /// The law of length: a history of a session whose phrase has e events has at most 2e + 2 entries,
 /// its opening among them.
@@ -36,4 +40,24 @@ pub fn choice_law()
     ensures { (session : Session) (keys : List (List ℕ × List ℕ)) (history : List Entry) (standing : Standing) (block : Block) →
         standing_after session keys history ≡ Some standing →
         movers_in block (ready_of standing.configuration) ≤ 1 }
+{}
+
+/// The law of records: the record of a legal history that is done or failed is right, whatever the bench.
+pub fn record_law<B: Bench>(bench: &B, artefacts: &ArtefactBook)
+    ensures { (session : Session) (keys : List (List ℕ × List ℕ)) (history : List Entry) (standing : Standing) (found : Record) →
+        IsLegal
+        (λ ask answer. B.gives bench.now artefacts.now ask answer)
+        (λ ask fault. B.fails bench.now artefacts.now ask fault)
+        (λ ask. B.starves bench.now artefacts.now ask)
+        session
+        keys
+        history
+        standing →
+        record_of session standing standing.state ≡ Some found →
+        IsRightRecord
+        (λ ask answer. B.gives bench.now artefacts.now ask answer)
+        (λ ask fault. B.fails bench.now artefacts.now ask fault)
+        session
+        keys
+        found }
 {}

@@ -4,7 +4,9 @@
 #![tactic(auto)]
 
 mod laws;
+#[cfg(test)]
+mod tests;
 mod wrong;
 
-pub use laws::{choice_law, length_law, progress_law, trace_law};
+pub use laws::{choice_law, length_law, progress_law, record_law, trace_law};
 pub use wrong::wrong_histories;
