@@ -149,14 +149,14 @@ after_configuration pass s (asks n) c = refl
 after_configuration pass s (answers n bytes) c = refl
 after_configuration pass s (starts n) c = refl
 
-no_standing : (Q : Type 0) (t : Standing) → ◌≡◌ {A = Option Standing} None (Some t) → Q
+pub no_standing : (Q : Type 0) (t : Standing) → ◌≡◌ {A = Option Standing} None (Some t) → Q
 no_standing Q t e = absurd (cc)
 
-made_is : (Q : Type 0) (pass : ℕ) (s : Standing) (x : Moved) (t : Standing) → ((m : Made) → x ≡ Some m → t ≡ after pass s m.0 m.1 → Q) → made pass s x ≡ Some t → Q
+pub made_is : (Q : Type 0) (pass : ℕ) (s : Standing) (x : Moved) (t : Standing) → ((m : Made) → x ≡ Some m → t ≡ after pass s m.0 m.1 → Q) → made pass s x ≡ Some t → Q
 made_is Q pass s None t f e = no_standing Q t e
 made_is Q pass s (Some m) t f e = f m refl (sym (some_is Standing (after pass s m.0 m.1) t e))
 
-once_finished_any : (A Q : Type 0) (c : Configuration) (until y : A) (then_do : Evidence → A) → (until ≡ y → Q) → ((result : Evidence) → c ≡ finished result → then_do result ≡ y → Q) → once_finished c until then_do ≡ y → Q
+pub once_finished_any : (A Q : Type 0) (c : Configuration) (until y : A) (then_do : Evidence → A) → (until ≡ y → Q) → ((result : Evidence) → c ≡ finished result → then_do result ≡ y → Q) → once_finished c until then_do ≡ y → Q
 once_finished_any A Q (todo phrase i before) until y then_do f g e = f e
 once_finished_any A Q (asked phrase i before) until y then_do f g e = f e
 once_finished_any A Q (posted asked_place i body before) until y then_do f g e = f e
@@ -171,7 +171,7 @@ if_standing : (Q : Type 0) (b : Bool) (x : Option Standing) (t : Standing) → (
 if_standing Q true x t f e = f refl e
 if_standing Q false x t f e = no_standing Q t e
 
-where_open_is : (Q : Type 0) (state : State) (x : Option Standing) (t : Standing) → (state ≡ is_open → x ≡ Some t → Q) → where_open state x ≡ Some t → Q
+pub where_open_is : (Q : Type 0) (state : State) (x : Option Standing) (t : Standing) → (state ≡ is_open → x ≡ Some t → Q) → where_open state x ≡ Some t → Q
 where_open_is Q is_open x t f e = f refl e
 where_open_is Q (is_done value) x t f e = no_standing Q t e
 where_open_is Q (has_failed event fault) x t f e = no_standing Q t e

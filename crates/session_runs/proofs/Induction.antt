@@ -129,7 +129,7 @@ on_step_law Q (in_block n step) i moves m f e = if_law Q (nat_eq n i) (moves ste
 on_step_law Q (answer n bytes) i moves m f e = no_move Q m e
 on_step_law Q (delivery n) i moves m f e = no_move Q m e
 
-not_true : (b : Bool) → not b ≡ true → b ≡ false
+pub not_true : (b : Bool) → not b ≡ true → b ≡ false
 not_true true e = absurd (cc)
 not_true false e = refl
 

@@ -12,3 +12,6 @@ pub mod ProgressLaws
 pub mod ValueLaws
 pub mod QuestionLaws
 pub mod RecordLaws
+pub mod ReadyLaws
+pub mod StepLaws
+pub mod ListingLaws

@@ -103,7 +103,7 @@ abbrev None_is : Made → Type 0
 None_is m = ◌≡◌ {A = Moved} None (Some m)
 
 -- a configuration that moves in its own block isn't finished
-until_own : (from : Makings) (place : List ℕ) (c : Configuration) (step : Step) (m : Made) (A : Type 0) (until : A) (then_do : Evidence → A) → own_moves from place c step ≡ Some m → once_finished c until then_do ≡ until
+pub until_own : (from : Makings) (place : List ℕ) (c : Configuration) (step : Step) (m : Made) (A : Type 0) (until : A) (then_do : Evidence → A) → own_moves from place c step ≡ Some m → once_finished c until then_do ≡ until
 until_own from place (todo phrase i before) step m A until then_do e = refl
 until_own from place (asked phrase i before) step m A until then_do e = refl
 until_own from place (posted asked_place i body before) step m A until then_do e = refl
@@ -129,16 +129,16 @@ pub second_made : (x y : Moved) (m : Made) → y ≡ Some m → (k : Made) × (o
 second_made None y m e = (m, e)
 second_made (Some k) y m e = (k, refl)
 
-first_made : (x y : Moved) (m : Made) → x ≡ Some m → or_else x y ≡ Some m
+pub first_made : (x y : Moved) (m : Made) → x ≡ Some m → or_else x y ≡ Some m
 first_made x y m e = ap (λ z. or_else z y) e
 
-inside_made : (whole : Configuration → Configuration) (x : Moved) (m : Made) → x ≡ Some m → inside whole x ≡ Some (m.0, whole m.1)
+pub inside_made : (whole : Configuration → Configuration) (x : Moved) (m : Made) → x ≡ Some m → inside whole x ≡ Some (m.0, whole m.1)
 inside_made whole x m e = ap (λ z. inside whole z) e
 
-step_made : (i : ℕ) (step : Step) (moves : Step → Moved) (m : Made) → moves step ≡ Some m → on_step (in_block i step) i moves ≡ Some m
+pub step_made : (i : ℕ) (step : Step) (moves : Step → Moved) (m : Made) → moves step ≡ Some m → on_step (in_block i step) i moves ≡ Some m
 step_made i step moves m e = ap (λ b. if b then moves step else None) (eq-eqb i i refl) ∙ e
 
-block_made : (from : Makings) (place : List ℕ) (inner : Configuration) (ended : Bool) (whole : Configuration → Bool → Configuration) (step : Step) (m : Made) → own_moves from place inner step ≡ Some m → block_moves inner ended whole (own_moves from place inner) step ≡ Some (m.0, whole m.1 ended)
+pub block_made : (from : Makings) (place : List ℕ) (inner : Configuration) (ended : Bool) (whole : Configuration → Bool → Configuration) (step : Step) (m : Made) → own_moves from place inner step ≡ Some m → block_moves inner ended whole (own_moves from place inner) step ≡ Some (m.0, whole m.1 ended)
 block_made from place inner ended whole step m e =
     until_own from place inner step m Moved (inside (λ after. whole after ended) (own_moves from place inner step)) (λ result. only_if (not ended) (on_run step silent (whole (finished result) true))) e
     ∙ inside_made (λ after. whole after ended) (own_moves from place inner step) m e
@@ -294,8 +294,10 @@ module _ (session : Session) (keys : List (List ℕ × List ℕ)) (s : Standing)
   can_play : (move : Move) (t : Standing) → s.state ≡ is_open → played_on (makings session keys) session.root pass s move ≡ Some t → CanMove session keys s pass
   can_play move t still e = record {
     move = move;
-    then_stands = t;
-    possible = ap (λ x. where_open x (entered (makings session keys) session.root s (played pass move))) still ∙ e;
+    made = record {
+      then_stands = t;
+      possible = ap (λ x. where_open x (entered (makings session keys) session.root s (played pass move))) still ∙ e;
+    };
   }
 
   pub goes_on : s.state ≡ is_open → Waits s → Alive (makings session keys) session.root s.configuration → IsNotStuck session keys s pass
@@ -339,9 +341,13 @@ sound_next session s entry t still sound (faulted pass event fault flying of_ent
 sound_next session s entry t still sound (starves pass event flying of_entry then_is) =
     record { sound = λ open_still. not_open (IsSound t) t.state (has_starved event) open_still (ap (λ x. x.state) then_is) (λ e. cc) }
 
+-- after every history
+pub history_sound : (session : Session) (keys : List (List ℕ × List ℕ)) (history : List Entry) (s : Standing) → standing_after session keys history ≡ Some s → IsSoundWhileOpen s
+history_sound session keys history s e =
+    kept_after session keys IsSoundWhileOpen (λ u entry t sound f. let o = onward (Together (Together Posts Flies) StaysProper) session keys (kept_law (makings session keys)) u entry t f in sound_next session u entry t o.0 sound o.1) (sound_opening session) history s e
+
 -- where the session is open, a move is possible or an ask is in flight
 pub history_goes_on : (session : Session) (keys : List (List ℕ × List ℕ)) (history : List Entry) (s : Standing) (pass : ℕ) → standing_after session keys history ≡ Some s → s.state ≡ is_open → IsNotStuck session keys s pass
 history_goes_on session keys history s pass e still =
-    let w : IsSoundWhileOpen s = kept_after session keys IsSoundWhileOpen (λ u entry t sound f. let o = onward (Together (Together Posts Flies) StaysProper) session keys (kept_law (makings session keys)) u entry t f in sound_next session u entry t o.0 sound o.1) (sound_opening session) history s e in
-    let sound : IsSound s = w.sound still in
+    let sound : IsSound s = (history_sound session keys history s e).sound still in
     goes_on session keys s pass still sound.waits (alive (makings session keys) session.root s.configuration sound.proper)

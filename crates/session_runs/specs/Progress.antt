@@ -1,18 +1,41 @@
--- What it means that a session isn't stuck, and that a block has one thing to do.
-use Rattle.std.specs.Prelude.{◌≡◌, ◌≤◌, ◌+◌, ◌⊎◌, ℕ, List, [], ◌∷◌, Some, length, nat_eq, if◌then◌else◌}
+-- Which moves are possible, what it means that a session isn't stuck, and that a block has one thing to do
+-- (this project's own).
+use Rattle.std.specs.Prelude.{◌≡◌, ◌≤◌, ◌+◌, ◌⊎◌, ℕ, List, [], ◌∷◌, ◌++◌, Option, None, Some, length, nat_eq, if◌then◌else◌, Contains}
 use Rattle.session_model.specs.Session.{Session}
-use Rattle.session_runs.specs.Standing.{Block, root, of, Move, played, Standing, next}
-use Rattle.session_runs.specs.MoveOrder.{Ready}
+use Rattle.session_runs.specs.Moves.{Step, run as run_step, ask as ask_step}
+use Rattle.session_runs.specs.Standing.{Block, root, of, Move, deliver, played, Standing, next}
+use Rattle.session_runs.specs.MoveOrder.{Ready, move_by}
 
 -- a pass can make this move
-pub record CanMove (session : Session) (keys : List (List ℕ × List ℕ)) (standing : Standing) (pass : ℕ) : Type 0 where
-  pub move : Move
+pub record CanMake (session : Session) (keys : List (List ℕ × List ℕ)) (standing : Standing) (pass : ℕ) (move : Move) : Type 0 where
   pub then_stands : Standing
   pub possible : next session keys standing (played pass move) ≡ Some then_stands
+
+-- a pass can make some move
+pub record CanMove (session : Session) (keys : List (List ℕ × List ℕ)) (standing : Standing) (pass : ℕ) : Type 0 where
+  pub move : Move
+  pub made : CanMake session keys standing pass move
 
 -- a move is possible, or an ask is in flight
 abbrev pub IsNotStuck : Session → List (List ℕ × List ℕ) → Standing → ℕ → Type 0
 IsNotStuck session keys standing pass = CanMove session keys standing pass ⊎ (1 ≤ length standing.in_flight)
+
+-- a delivery is at one of these places
+abbrev pub IsAtOneOf : List (List ℕ) → Move → Type 0
+IsAtOneOf places (deliver place) = Contains places place
+IsAtOneOf places _ = Unit {0}
+
+-- what a step of this event adds, made by a pass: nothing; an event that happens; an ask in flight
+abbrev pub Adds : Option ℕ → Step → ℕ → Standing → Standing → Type 0
+Adds None step pass before after = (after.trace ≡ before.trace) × (after.in_flight ≡ before.in_flight)
+Adds (Some n) run_step pass before after = (after.trace ≡ before.trace ++ n ∷ []) × (after.in_flight ≡ before.in_flight)
+Adds (Some n) ask_step pass before after = (after.trace ≡ before.trace) × (after.in_flight ≡ (n, pass) ∷ before.in_flight)
+
+-- a pass can make the step of a configuration that is ready, and it is of the event that stands with it
+pub record IsTrulyReady (session : Session) (keys : List (List ℕ × List ℕ)) (standing : Standing) (pass : ℕ) (ready : Ready) : Type 0 where
+  pub then_stands : Standing
+  pub possible : next session keys standing (played pass (move_by ready.step ready.block)) ≡ Some then_stands
+  pub event : Adds ready.event ready.step pass standing then_stands
 
 -- one where two blocks are the same
 abbrev pub same_block : Block → Block → ℕ

@@ -1,13 +1,13 @@
-ghost use Rattle.std.specs.Prelude.{◌≡◌, ◌+◌, ◌*◌, ◌≤◌, ℕ, List, Some, length};
+ghost use Rattle.std.specs.Prelude.{◌≡◌, ◌+◌, ◌*◌, ◌≤◌, ◌↔◌, ℕ, List, Some, length, Contains};
 ghost use Rattle.phrase_tree.specs.Numbering.{event_count};
 ghost use Rattle.event_system.specs.Trace.{IsTraceSoFar};
 ghost use Rattle.session_model.specs.Session.{Session};
 ghost use Rattle.session_model.specs.Record.{Record};
 ghost use Rattle.session_model.specs.RightRecord.{IsRightRecord};
-ghost use Rattle.session_runs.specs.Standing.{Block, Entry, is_open, Standing};
+ghost use Rattle.session_runs.specs.Standing.{Block, Move, Entry, is_open, Standing};
 ghost use Rattle.session_runs.specs.History.{standing_after, IsLegal, record_of};
-ghost use Rattle.session_runs.specs.MoveOrder.{ready_of};
-ghost use Rattle.session_runs.specs.Progress.{IsNotStuck, movers_in};
+ghost use Rattle.session_runs.specs.MoveOrder.{Ready, ready_of, possible_moves};
+ghost use Rattle.session_runs.specs.Progress.{CanMake, IsNotStuck, IsAtOneOf, IsTrulyReady, movers_in};
 
 use bench_trait::{ArtefactBook, Bench};
 
@@ -40,6 +40,20 @@ pub fn choice_law()
     ensures { (session : Session) (keys : List (List ℕ × List ℕ)) (history : List Entry) (standing : Standing) (block : Block) →
         standing_after session keys history ≡ Some standing →
         movers_in block (ready_of standing.configuration) ≤ 1 }
+{}
+
+/// The law of listing: the moves that are listed are those that every pass can make, a delivery only
+/// where its place is one of those given; and each configuration that is ready can make its step, which
+/// is of the event that stands with it.
+pub fn listing_law()
+    ensures listed { (session : Session) (keys : List (List ℕ × List ℕ)) (places : List (List ℕ)) (history : List Entry) (standing : Standing) (pass : ℕ) (move : Move) →
+        standing_after session keys history ≡ Some standing →
+        Contains (possible_moves places standing) move ↔ (CanMake session keys standing pass move × IsAtOneOf places move) }
+    ensures ready { (session : Session) (keys : List (List ℕ × List ℕ)) (history : List Entry) (standing : Standing) (pass : ℕ) (one : Ready) →
+        standing_after session keys history ≡ Some standing →
+        standing.state ≡ is_open →
+        Contains (ready_of standing.configuration) one →
+        IsTrulyReady session keys standing pass one }
 {}
 
 /// The law of records: the record of a legal history that is done or failed is right, whatever the bench.
