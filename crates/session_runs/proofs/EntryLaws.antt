@@ -92,7 +92,7 @@ step_effect (in_block n step) i moves m f e = if_law (IsOfBlock m.0) (nat_eq n i
 step_effect (answer n bytes) i moves m f e = no_move (m.0 ≡ answers n bytes) m e
 step_effect (delivery n) i moves m f e = no_move (m.0 ≡ starts n) m e
 
-inner_effect : (from : Makings) (place : List ℕ) (c : Configuration) (deed : Deed) (m : Made) → inner_moves from place c deed ≡ Some m → FitsDeed deed m.0
+pub inner_effect : (from : Makings) (place : List ℕ) (c : Configuration) (deed : Deed) (m : Made) → inner_moves from place c deed ≡ Some m → FitsDeed deed m.0
 inner_effect from place (todo phrase i before) deed m e = no_move (FitsDeed deed m.0) m e
 inner_effect from place (asked phrase i before) deed m e = answer_effect deed i (λ bytes. finished (measurement phrase i bytes before)) m e
 inner_effect from place (posted asked_place i body before) deed m e = delivery_effect deed i _ m e

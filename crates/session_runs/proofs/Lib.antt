@@ -15,3 +15,4 @@ pub mod RecordLaws
 pub mod ReadyLaws
 pub mod StepLaws
 pub mod ListingLaws
+pub mod ResultLaws

@@ -147,7 +147,7 @@ valued_moves session keys c log effect d v k = record {
 }
 
 -- an ask in flight is of an event that may come off
-in_flight_there : (flying : List (ℕ × ℕ)) (pass event : ℕ) → is_in_flight flying pass event ≡ true → 1 ≤ ask_count flying event
+pub in_flight_there : (flying : List (ℕ × ℕ)) (pass event : ℕ) → is_in_flight flying pass event ≡ true → 1 ≤ ask_count flying event
 in_flight_there [] pass event e = absurd (cc)
 in_flight_there (one ∷ rest) pass event e = elim (or_cases (nat_eq one.0 event && nat_eq one.1 pass) (is_in_flight rest pass event) e) [
   | inl here ↦ omega (arith, same_one one.0 event (eqb-true one.0 event (and_parts (nat_eq one.0 event) (nat_eq one.1 pass) here).0))
@@ -158,7 +158,7 @@ pub record MayCome (r : Rest) (n : ℕ) : Type 0 where
   pub left : Rest
   pub takes : Takes r true n left
 
-flight_comes : (c : Configuration) (n : ℕ) → 1 ≤ flights c n → MayCome (rest c) n
+pub flight_comes : (c : Configuration) (n : ℕ) → 1 ≤ flights c n → MayCome (rest c) n
 flight_comes (todo phrase i before) n h = absurd (omega arith)
 flight_comes (asked phrase i before) n h = record { left = none; takes = (same_is i n h, refl, refl) }
 flight_comes (posted asked_place i body before) n h = absurd (omega arith)

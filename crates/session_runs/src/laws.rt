@@ -1,13 +1,13 @@
-ghost use Rattle.std.specs.Prelude.{◌≡◌, ◌+◌, ◌*◌, ◌≤◌, ◌↔◌, ℕ, List, Some, length, Contains};
+ghost use Rattle.std.specs.Prelude.{◌≡◌, ◌+◌, ◌*◌, ◌≤◌, ◌↔◌, ℕ, true, List, Some, length, Contains};
 ghost use Rattle.phrase_tree.specs.Numbering.{event_count};
 ghost use Rattle.event_system.specs.Trace.{IsTraceSoFar};
 ghost use Rattle.session_model.specs.Session.{Session};
 ghost use Rattle.session_model.specs.Record.{Record};
 ghost use Rattle.session_model.specs.RightRecord.{IsRightRecord};
-ghost use Rattle.session_runs.specs.Standing.{Block, Move, Entry, is_open, Standing};
+ghost use Rattle.session_runs.specs.Standing.{Block, Move, Entry, is_open, is_in_flight, Standing};
 ghost use Rattle.session_runs.specs.History.{standing_after, IsLegal, record_of};
 ghost use Rattle.session_runs.specs.MoveOrder.{Ready, ready_of, possible_moves};
-ghost use Rattle.session_runs.specs.Progress.{CanMake, IsNotStuck, IsAtOneOf, IsTrulyReady, movers_in};
+ghost use Rattle.session_runs.specs.Progress.{CanMake, IsNotStuck, IsAtOneOf, IsTrulyReady, IsAwaited, movers_in};
 
 use bench_trait::{ArtefactBook, Bench};
 
@@ -54,6 +54,16 @@ pub fn listing_law()
         standing.state ≡ is_open →
         Contains (ready_of standing.configuration) one →
         IsTrulyReady session keys standing pass one }
+{}
+
+/// The law of results: while a session is open, an ask in flight is one of the session's own questions,
+/// and each result for it can come next from the pass that asked; with an answer its event happens.
+pub fn result_law()
+    ensures { (session : Session) (keys : List (List ℕ × List ℕ)) (history : List Entry) (standing : Standing) (pass : ℕ) (event : ℕ) →
+        standing_after session keys history ≡ Some standing →
+        standing.state ≡ is_open →
+        is_in_flight standing.in_flight pass event ≡ true →
+        IsAwaited session keys standing pass event }
 {}
 
 /// The law of records: the record of a legal history that is done or failed is right, whatever the bench.

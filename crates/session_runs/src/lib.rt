@@ -8,5 +8,7 @@ mod laws;
 mod tests;
 mod wrong;
 
-pub use laws::{choice_law, length_law, listing_law, progress_law, record_law, trace_law};
+pub use laws::{
+    choice_law, length_law, listing_law, progress_law, record_law, result_law, trace_law,
+};
 pub use wrong::wrong_histories;
