@@ -16,3 +16,4 @@ pub mod ReadyLaws
 pub mod StepLaws
 pub mod ListingLaws
 pub mod ResultLaws
+pub mod OwnerLaws

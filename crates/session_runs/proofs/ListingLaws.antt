@@ -377,7 +377,7 @@ history_lists session keys places history s pass move e = (λ c. forth (among_co
         (λ still h. contains_among Move (possible_moves places s) move (subst (λ x. IsAmong (moves_where places s x) move) (sym still) (played_listed session keys s pass still places move can.then_stands h there)))
         can.possible
 
-among_ready : (xs : List Ready) (one : Ready) → IsAmong xs one → IsReady xs one.block one.step one.event
+pub among_ready : (xs : List Ready) (one : Ready) → IsAmong xs one → IsReady xs one.block one.step one.event
 among_ready [] one h = absurd h
 among_ready (x ∷ xs) one (inl e) = inl (ap (λ r. r.block) e, ap (λ r. r.step) e, ap (λ r. r.event) e)
 among_ready (x ∷ xs) one (inr h) = inr (among_ready xs one h)

@@ -4,7 +4,8 @@ ghost use Rattle.event_system.specs.Trace.{IsTraceSoFar};
 ghost use Rattle.session_model.specs.Session.{Session};
 ghost use Rattle.session_model.specs.Record.{Record};
 ghost use Rattle.session_model.specs.RightRecord.{IsRightRecord};
-ghost use Rattle.session_runs.specs.Standing.{Block, Move, Entry, is_open, is_in_flight, Standing};
+ghost use Rattle.session_runs.specs.Owner.{owner};
+ghost use Rattle.session_runs.specs.Standing.{Block, root, Move, Entry, is_open, is_in_flight, Standing};
 ghost use Rattle.session_runs.specs.History.{standing_after, IsLegal, record_of};
 ghost use Rattle.session_runs.specs.MoveOrder.{Ready, ready_of, possible_moves};
 ghost use Rattle.session_runs.specs.Progress.{CanMake, IsNotStuck, IsAtOneOf, IsTrulyReady, IsAwaited, movers_in};
@@ -64,6 +65,15 @@ pub fn result_law()
         standing.state ≡ is_open →
         is_in_flight standing.in_flight pass event ≡ true →
         IsAwaited session keys standing pass event }
+{}
+
+/// The law of owners: a configuration that is ready for an event is in the block that owns the event.
+pub fn owner_law()
+    ensures { (session : Session) (keys : List (List ℕ × List ℕ)) (history : List Entry) (standing : Standing) (one : Ready) (event : ℕ) →
+        standing_after session keys history ≡ Some standing →
+        Contains (ready_of standing.configuration) one →
+        one.event ≡ Some event →
+        owner session.phrase root 0 event ≡ Some one.block }
 {}
 
 /// The law of records: the record of a legal history that is done or failed is right, whatever the bench.
