@@ -52,6 +52,23 @@ before_the_reply =
 abbrev pub the_reply : Entry
 the_reply = played 0 (run root)
 
+-- its reply comes once the event has happened, its block still to end
+abbrev pub before_its_end : List Entry
+before_its_end =
+    opened ∷ played 0 (run root) ∷ played 0 (deliver other_place) ∷ played 0 (run (of 0)) ∷ []
+
+-- its block ends a second time
+abbrev pub behind_its_end : List Entry
+behind_its_end =
+    opened ∷ played 0 (run root) ∷ played 0 (deliver other_place) ∷ played 0 (run (of 0)) ∷ played 0 (run (of 0)) ∷ []
+
+abbrev pub the_end_again : Entry
+the_end_again = played 0 (run (of 0))
+
+-- it is delivered a second time
+abbrev pub the_delivery_again : Entry
+the_delivery_again = played 0 (deliver other_place)
+
 -- two measurements in sequence: the right arm is run in a block of its own, beside the left one
 abbrev pub one_by_one : Session
 one_by_one = of_phrase (seq to_both (usm (plain 97)) (usm (plain 98)))
@@ -78,6 +95,10 @@ one_pass_asks =
 abbrev pub another_answers : Entry
 another_answers = answered 1 0 (5 ∷ [])
 
+-- it is asked for while its ask is in flight
+abbrev pub the_ask_again : Entry
+the_ask_again = played 0 (ask root)
+
 -- it is answered twice
 abbrev pub one_pass_answers : List Entry
 one_pass_answers =
@@ -85,6 +106,14 @@ one_pass_answers =
 
 abbrev pub an_answer_again : Entry
 an_answer_again = answered 0 0 (6 ∷ [])
+
+-- the session is done, and its root block ends a second time
+abbrev pub all_done : List Entry
+all_done =
+    opened ∷ played 0 (ask root) ∷ answered 0 0 (5 ∷ []) ∷ played 0 (run root) ∷ []
+
+abbrev pub done_again : Entry
+done_again = played 0 (run root)
 
 -- two measurements in parallel: one fails, and the other is still asked for
 abbrev pub two_measurements : Session
