@@ -167,7 +167,7 @@ once_finished_any A Q (right_arm left_result inner last) until y then_do f g e =
 once_finished_any A Q (both_arms i last left right ended) until y then_do f g e = f e
 once_finished_any A Q (finished result) until y then_do f g e = g result refl e
 
-if_standing : (Q : Type 0) (b : Bool) (x : Option Standing) (t : Standing) → (b ≡ true → x ≡ Some t → Q) → (if b then x else None) ≡ Some t → Q
+pub if_standing : (Q : Type 0) (b : Bool) (x : Option Standing) (t : Standing) → (b ≡ true → x ≡ Some t → Q) → (if b then x else None) ≡ Some t → Q
 if_standing Q true x t f e = f refl e
 if_standing Q false x t f e = no_standing Q t e
 

@@ -17,3 +17,5 @@ pub mod StepLaws
 pub mod ListingLaws
 pub mod ResultLaws
 pub mod OwnerLaws
+pub mod PlaceLaws
+pub mod ScheduleLaws

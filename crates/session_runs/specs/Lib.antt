@@ -6,4 +6,5 @@ pub mod Owner
 pub mod Progress
 pub mod MoveOrder
 pub mod Schedule
+pub mod Played
 pub mod WrongHistories

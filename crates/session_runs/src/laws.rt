@@ -1,5 +1,6 @@
-ghost use Rattle.std.specs.Prelude.{◌≡◌, ◌+◌, ◌*◌, ◌≤◌, ◌↔◌, ℕ, true, List, Some, length, Contains};
+ghost use Rattle.std.specs.Prelude.{◌≡◌, ◌+◌, ◌*◌, ◌≤◌, ◌↔◌, ◌⊎◌, ℕ, true, List, Some, Result, length, Contains};
 ghost use Rattle.phrase_tree.specs.Numbering.{event_count};
+ghost use Rattle.bench_trait.specs.declared.bench.MeasureError.{MeasureError};
 ghost use Rattle.event_system.specs.Trace.{IsTraceSoFar};
 ghost use Rattle.session_model.specs.Session.{Session};
 ghost use Rattle.session_model.specs.Record.{Record};
@@ -8,6 +9,8 @@ ghost use Rattle.session_runs.specs.Owner.{owner};
 ghost use Rattle.session_runs.specs.Standing.{Block, root, Move, Entry, is_open, is_in_flight, Standing};
 ghost use Rattle.session_runs.specs.History.{standing_after, IsLegal, record_of};
 ghost use Rattle.session_runs.specs.MoveOrder.{Ready, ready_of, possible_moves};
+ghost use Rattle.session_runs.specs.Schedule.{scheduled};
+ghost use Rattle.session_runs.specs.Played.{AsksOnly, AskOnly, ArePlayed, AreOver};
 ghost use Rattle.session_runs.specs.Progress.{CanMake, IsNotStuck, IsAtOneOf, IsTrulyReady, IsAwaited, movers_in};
 
 use bench_trait::{ArtefactBook, Bench};
@@ -27,12 +30,18 @@ pub fn trace_law()
         IsTraceSoFar session.phrase 0 standing.trace }
 {}
 
-/// The law of progress: while a session is open, every pass can make a move, or an ask is in flight.
+/// The law of progress: while a session is open, every pass can make a move, or an ask is in flight; and
+/// where the places given are all that its phrase asks, such a move is listed.
 pub fn progress_law()
-    ensures { (session : Session) (keys : List (List ℕ × List ℕ)) (history : List Entry) (standing : Standing) (pass : ℕ) →
+    ensures possible { (session : Session) (keys : List (List ℕ × List ℕ)) (history : List Entry) (standing : Standing) (pass : ℕ) →
         standing_after session keys history ≡ Some standing →
         standing.state ≡ is_open →
         IsNotStuck session keys standing pass }
+    ensures listed { (session : Session) (keys : List (List ℕ × List ℕ)) (places : List (List ℕ)) (history : List Entry) (standing : Standing) →
+        AsksOnly places session.phrase →
+        standing_after session keys history ≡ Some standing →
+        standing.state ≡ is_open →
+        (1 ≤ length (possible_moves places standing)) ⊎ (1 ≤ length standing.in_flight) }
 {}
 
 /// The law of choice: after every history at most one configuration can move in each block, so that a
@@ -74,6 +83,15 @@ pub fn owner_law()
         Contains (ready_of standing.configuration) one →
         one.event ≡ Some event →
         owner session.phrase root 0 event ≡ Some one.block }
+{}
+
+/// The law of schedules: the sessions of a job as the schedule of a number plays them have histories
+/// that they can have, of the results given, and none of them is open in the end unless one is starved.
+pub fn schedule_law()
+    ensures { (places : List (List ℕ)) (keys : List (List ℕ × List ℕ)) (results : ℕ → ℕ → Result (List ℕ) MeasureError) (sessions : List Session) (number : ℕ) →
+        AskOnly places sessions →
+        ArePlayed keys results 0 sessions (scheduled places keys results sessions number)
+        × AreOver (scheduled places keys results sessions number) }
 {}
 
 /// The law of records: the record of a legal history that is done or failed is right, whatever the bench.
