@@ -1,13 +1,17 @@
 -- Small phrases as the schedules of the numbers 0 to 9 play them, written down from another program: an
 -- edit of the definitions is refused here.
 use Rattle.std.proofs.Common.{◌≡◌, ℕ, List, [], ◌∷◌, ◌++◌, refl}
-use Rattle.std.specs.Prelude.{codes, true, false, Option, None, Some, Result, Ok}
+use Rattle.std.specs.Prelude.{codes, true, false, Option, None, Some, Result, Ok, Err, nat_eq, if◌then◌else◌}
 use Rattle.phrase_tree.specs.declared.measurement.Asp.{Asp}
 use Rattle.phrase_tree.specs.declared.phrase.Split.{Split}
 use Rattle.phrase_tree.specs.Term.{Term, cpy, sig, hsh, usm, kim, at, chain, seq, par}
+use Rattle.bench_trait.specs.declared.bench.BenchFault.TheVariants.{NoArtefact}
 use Rattle.bench_trait.specs.declared.bench.MeasureError.{MeasureError}
+use Rattle.bench_trait.specs.declared.bench.MeasureError.TheVariants.{Fault, NoMemory}
 use Rattle.session_model.specs.Session.{Session}
-use Rattle.session_runs.specs.Standing.{root, of, Move, run, ask, deliver, Entry, Standing, opening, next}
+use Rattle.session_model.specs.Record.{Record, failed as failed_record}
+use Rattle.session_runs.specs.Standing.{root, of, Move, run, ask, deliver, Entry, State, is_open, has_starved, Standing, opening, next}
+use Rattle.session_runs.specs.History.{record_of}
 use Rattle.session_runs.specs.MoveOrder.{possible_moves}
 use Rattle.session_runs.specs.Schedule.{Walked, scheduled}
 
@@ -308,3 +312,38 @@ three_sessions = session_of (par to_left (usm first_one) (usm second_one)) ∷ s
 three_after_one : traces_in (scheduled places [] number_each three_sessions 1) ≡ (0 ∷ 2 ∷ 1 ∷ 3 ∷ []) ∷ (0 ∷ 1 ∷ 2 ∷ 3 ∷ []) ∷ (0 ∷ 1 ∷ 2 ∷ 3 ∷ []) ∷ []
 unfolding three_sessions
 three_after_one = refl
+
+-- (USM a +~+ USM b) +~- USM scan, of which the measurement of one event fails, or starves
+three : Session
+three = session_of (par to_left (par to_both (usm first_one) (usm second_one)) (usm scan))
+
+abbrev without : ℕ → ℕ → ℕ → Result (List ℕ) MeasureError
+without lacking session event = if nat_eq event lacking then Err (Fault NoArtefact) else Ok (event ∷ [])
+
+abbrev starved_at : ℕ → ℕ → ℕ → Result (List ℕ) MeasureError
+starved_at lacking session event = if nat_eq event lacking then Err NoMemory else Ok (event ∷ [])
+
+abbrev records_in : List Walked → List (Option Record)
+records_in [] = []
+records_in (walked ∷ rest) = record_of walked.session walked.standing walked.standing.state ∷ records_in rest
+
+without_two : records_in (scheduled places [] (without 2) (three ∷ []) 0) ≡ Some (failed_record 2 NoArtefact (0 ∷ 1 ∷ [])) ∷ []
+unfolding three
+without_two = refl
+
+without_three : records_in (scheduled places [] (without 3) (three ∷ []) 0) ≡ Some (failed_record 3 NoArtefact (0 ∷ 1 ∷ 2 ∷ [])) ∷ []
+unfolding three
+without_three = refl
+
+without_five : records_in (scheduled places [] (without 5) (three ∷ []) 0) ≡ Some (failed_record 5 NoArtefact (0 ∷ 1 ∷ 2 ∷ 3 ∷ 4 ∷ [])) ∷ []
+unfolding three
+without_five = refl
+
+-- a session that starves ends the whole schedule
+abbrev states_in : List Walked → List State
+states_in [] = []
+states_in (walked ∷ rest) = walked.standing.state ∷ states_in rest
+
+starved_at_three : states_in (scheduled places [] (starved_at 3) (three ∷ three ∷ []) 0) ≡ has_starved 3 ∷ is_open ∷ []
+unfolding three
+starved_at_three = refl
