@@ -63,6 +63,7 @@ fn joined(alloc: Global, q: Place, a: Name, b: Name, parallel: bool) -> Result<P
     Ok(Phrase::Then(Box::new(alloc, branch)?, Box::new(alloc, Phrase::Hsh)?))
 }
 
+// The lines are those of another program.
 #[test]
 fn events_are_reported_with_their_direct_predecessors(rt: HostRuntime) -> Result<(), Fail> {
     let bank = Name::read("bank").ok_or("bank")?;
