@@ -8,6 +8,8 @@
 mod copying;
 mod digesting;
 mod evaluating;
+#[cfg(test)]
+mod gather_tests;
 mod gathering;
 mod laws;
 mod nodes;
