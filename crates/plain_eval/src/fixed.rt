@@ -48,7 +48,7 @@ pub fn done_where_artefacts_are_there()
 {}
 
 /// Each question of a session holds its nonce, so two sessions with different nonces have none in
-/// common, and an answer to a question of one answers none of the other.
+/// common.
 pub fn nonces_keep_questions_apart()
     ensures held { (session : Session) (ask : Ask) →
         Contains (session_questions session) ask → ask.nonce ≡ session.nonce }
