@@ -2,3 +2,4 @@ pub mod KeyLemmas
 pub mod GatherLemmas
 pub mod AnswerLemmas
 pub mod BundleLemmas
+pub mod FixedLemmas

@@ -3,3 +3,4 @@ pub mod Evaluating
 pub mod Gathering
 pub mod Walking
 pub mod Short
+pub mod Fixed
