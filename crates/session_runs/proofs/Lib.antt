@@ -18,4 +18,5 @@ pub mod ListingLaws
 pub mod ResultLaws
 pub mod OwnerLaws
 pub mod PlaceLaws
+pub mod HistoryLaws
 pub mod ScheduleLaws

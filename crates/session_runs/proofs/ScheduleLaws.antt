@@ -7,8 +7,8 @@ use Rattle.bench_trait.specs.declared.bench.MeasureError.{MeasureError}
 use Rattle.bench_trait.specs.declared.bench.MeasureError.TheVariants.{Fault, NoMemory}
 use Rattle.session_model.specs.Session.{Session}
 use Rattle.session_runs.specs.Moves.{run as run_step, ask as ask_step, in_block, answer, delivery, Effect, silent, happens, sends, asks, answers, starts, Moved, own_moves, inner_moves}
-use Rattle.session_runs.specs.Standing.{root, of, Move, run, ask, deliver, Entry, opened, played, answered, failed, starved, State, is_open, is_done, has_failed, has_starved, Standing, opening, makings, front, without_ask, is_in_flight, after, made, delivered, played_on, entered, next}
-use Rattle.session_runs.specs.History.{further, standing_after}
+use Rattle.session_runs.specs.Standing.{root, of, Move, run, ask, deliver, Entry, opened, played, answered, failed, starved, State, is_open, is_done, has_failed, has_starved, Standing, makings, front, without_ask, is_in_flight, after, made, delivered, played_on, entered, next}
+use Rattle.session_runs.specs.History.{standing_after}
 use Rattle.session_runs.specs.MoveOrder.{possible_moves, asks_ranked, asks_in_order}
 use Rattle.session_runs.specs.Progress.{CanCome, IsAwaited}
 use Rattle.session_runs.specs.Schedule.{stirred, drawn_of, draw, Walked, just_opened, all_opened, result_entry, results_first, candidates, is_running, open_count, one_starves, with_entry, nth_entry, with_choice, chosen, Round, ahead, moved_on, one_round, rounds, entries_at_most, first_from, scheduled}
@@ -16,28 +16,10 @@ use Rattle.session_runs.specs.Played.{AsksOnly, AskOnly, IsWalked, AreWalked, Is
 use Rattle.session_runs.proofs.Induction.{Made}
 use Rattle.session_runs.proofs.EntryLaws.{some_is, made_is, no_standing, once_finished_any, where_open_is, if_standing}
 use Rattle.session_runs.proofs.CountLaws.{history_short}
+use Rattle.session_runs.proofs.HistoryLaws.{after_more}
 use Rattle.session_runs.proofs.ListingLaws.{IsAmong, contains_among, history_lists}
 use Rattle.session_runs.proofs.ResultLaws.{history_awaits}
 use Rattle.session_runs.proofs.PlaceLaws.{history_lists_one}
-
--- one entry more
-further_none : (session : Session) (keys : List (List ℕ × List ℕ)) (x : Option Standing) → further session keys x [] ≡ x
-further_none session keys None = refl
-further_none session keys (Some s) = refl
-
-further_more : (session : Session) (keys : List (List ℕ × List ℕ)) (x : Option Standing) (entries : List Entry) (s : Standing) (entry : Entry) (t : Standing) → further session keys x entries ≡ Some s → next session keys s entry ≡ Some t → further session keys x (entries ++ entry ∷ []) ≡ Some t
-further_more session keys None entries s entry t e n = no_standing (further session keys None (entries ++ entry ∷ []) ≡ Some t) s e
-further_more session keys (Some u) [] s entry t e n =
-    ap (λ v. further session keys (next session keys v entry) []) (some_is Standing u s e) ∙ further_none session keys (next session keys s entry) ∙ n
-further_more session keys (Some u) (one ∷ entries) s entry t e n = further_more session keys (next session keys u one) entries s entry t e n
-
-standing_more : (session : Session) (keys : List (List ℕ × List ℕ)) (history : List Entry) (s : Standing) (entry : Entry) (t : Standing) → standing_after session keys history ≡ Some s → next session keys s entry ≡ Some t → standing_after session keys (history ++ entry ∷ []) ≡ Some t
-standing_more session keys [] s entry t e n = no_standing (standing_after session keys (entry ∷ []) ≡ Some t) s e
-standing_more session keys (opened ∷ entries) s entry t e n = further_more session keys (Some (opening session)) entries s entry t e n
-standing_more session keys (played pass move ∷ entries) s entry t e n = no_standing (standing_after session keys (played pass move ∷ (entries ++ entry ∷ [])) ≡ Some t) s e
-standing_more session keys (answered pass event bytes ∷ entries) s entry t e n = no_standing (standing_after session keys (answered pass event bytes ∷ (entries ++ entry ∷ [])) ≡ Some t) s e
-standing_more session keys (failed pass event fault ∷ entries) s entry t e n = no_standing (standing_after session keys (failed pass event fault ∷ (entries ++ entry ∷ [])) ≡ Some t) s e
-standing_more session keys (starved pass event ∷ entries) s entry t e n = no_standing (standing_after session keys (starved pass event ∷ (entries ++ entry ∷ [])) ≡ Some t) s e
 
 walked_more : (results : ℕ → Result (List ℕ) MeasureError) (entries : List Entry) (entry : Entry) → AreWalked results entries → IsWalked results entry → AreWalked results (entries ++ entry ∷ [])
 walked_more results [] entry h w = (w, tt)
@@ -220,7 +202,7 @@ module _ (keys : List (List ℕ × List ℕ)) (results : ℕ → Result (List �
         fine = record {
           plays = record {
             same = fine.plays.same;
-            stands = standing_more session keys walked.history walked.standing entry t fine.plays.stands possible;
+            stands = after_more session keys walked.history walked.standing entry fine.plays.stands ∙ possible;
             entries = walked_more results walked.history entry fine.plays.entries comes.walks;
           };
           zeros = zero_next session keys results walked.standing entry t fine.zeros comes.walks possible;

@@ -1,13 +1,13 @@
-ghost use Rattle.std.specs.Prelude.{◌≡◌, ◌+◌, ◌*◌, ◌≤◌, ◌↔◌, ◌⊎◌, ℕ, true, List, Some, Result, length, Contains};
+ghost use Rattle.std.specs.Prelude.{◌≡◌, ◌+◌, ◌*◌, ◌≤◌, ◌↔◌, ◌⊎◌, ℕ, true, List, [], ◌∷◌, ◌++◌, Some, Result, length, Contains};
 ghost use Rattle.phrase_tree.specs.Numbering.{event_count};
 ghost use Rattle.bench_trait.specs.declared.bench.MeasureError.{MeasureError};
 ghost use Rattle.event_system.specs.Trace.{IsTraceSoFar};
-ghost use Rattle.session_model.specs.Session.{Session};
+ghost use Rattle.session_model.specs.Session.{Session, session_questions};
 ghost use Rattle.session_model.specs.Record.{Record};
 ghost use Rattle.session_model.specs.RightRecord.{IsRightRecord};
 ghost use Rattle.session_runs.specs.Owner.{owner};
-ghost use Rattle.session_runs.specs.Standing.{Block, root, Move, Entry, is_open, is_in_flight, Standing};
-ghost use Rattle.session_runs.specs.History.{standing_after, IsLegal, record_of};
+ghost use Rattle.session_runs.specs.Standing.{Block, root, Move, Entry, is_open, is_in_flight, Standing, next};
+ghost use Rattle.session_runs.specs.History.{standing_after, IsResult, IsLegal, record_of};
 ghost use Rattle.session_runs.specs.MoveOrder.{Ready, ready_of, possible_moves};
 ghost use Rattle.session_runs.specs.Schedule.{scheduled};
 ghost use Rattle.session_runs.specs.Played.{AsksOnly, AskOnly, ArePlayed, AreOver};
@@ -92,6 +92,35 @@ pub fn schedule_law()
         AskOnly places sessions →
         ArePlayed keys results 0 sessions (scheduled places keys results sessions number)
         × AreOver (scheduled places keys results sessions number) }
+{}
+
+/// The law of growth: a legal history with one entry more is legal just where the entry can come next
+/// and, if it is a result, is one of the bench for its question. So a history is legal entry by entry.
+pub fn growth_law<B: Bench>(bench: &B, artefacts: &ArtefactBook)
+    ensures { (session : Session) (keys : List (List ℕ × List ℕ)) (history : List Entry) (standing : Standing) (entry : Entry) (then_stands : Standing) →
+        IsLegal
+        (λ ask answer. B.gives bench.now artefacts.now ask answer)
+        (λ ask fault. B.fails bench.now artefacts.now ask fault)
+        (λ ask. B.starves bench.now artefacts.now ask)
+        session
+        keys
+        history
+        standing →
+        IsLegal
+        (λ ask answer. B.gives bench.now artefacts.now ask answer)
+        (λ ask fault. B.fails bench.now artefacts.now ask fault)
+        (λ ask. B.starves bench.now artefacts.now ask)
+        session
+        keys
+        (history ++ entry ∷ [])
+        then_stands
+        ↔ ((next session keys standing entry ≡ Some then_stands)
+        × IsResult
+        (λ ask answer. B.gives bench.now artefacts.now ask answer)
+        (λ ask fault. B.fails bench.now artefacts.now ask fault)
+        (λ ask. B.starves bench.now artefacts.now ask)
+        (session_questions session)
+        entry) }
 {}
 
 /// The law of records: the record of a legal history that is done or failed is right, whatever the bench.
