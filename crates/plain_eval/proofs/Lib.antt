@@ -1,1 +1,5 @@
 pub mod KeyLemmas
+pub mod GatherLemmas
+pub mod AnswerLemmas
+pub mod BundleLemmas
+pub mod FixedLemmas
