@@ -20,3 +20,6 @@ pub mod OwnerLaws
 pub mod PlaceLaws
 pub mod HistoryLaws
 pub mod ScheduleLaws
+pub mod NextEvent
+pub mod RisingLaws
+pub mod RisingRecords

@@ -26,7 +26,7 @@ walked_more results [] entry h w = (w, tt)
 walked_more results (one ∷ entries) entry h w = (h.0, walked_more results entries entry h.1 w)
 
 -- all asks in flight are of the pass 0
-abbrev OfZero : List (ℕ × ℕ) → Type 0
+abbrev pub OfZero : List (ℕ × ℕ) → Type 0
 OfZero [] = Unit {0}
 OfZero (one ∷ rest) = (one.1 ≡ 0) × OfZero rest
 
@@ -181,9 +181,9 @@ drawn_below count from some = below (nat_eq count 1) from
     below false (Some x) = mod_below (stirred x / 65536) count (omega (arith, some))
 
 -- a session that is played so far, with all its asks of the pass 0
-record IsFine (keys : List (List ℕ × List ℕ)) (results : ℕ → Result (List ℕ) MeasureError) (session : Session) (walked : Walked) : Type 0 where
-  plays : IsPlayed keys results session walked
-  zeros : OfZero walked.standing.in_flight
+pub record IsFine (keys : List (List ℕ × List ℕ)) (results : ℕ → Result (List ℕ) MeasureError) (session : Session) (walked : Walked) : Type 0 where
+  pub plays : IsPlayed keys results session walked
+  pub zeros : OfZero walked.standing.in_flight
 
 fine_opened : (keys : List (List ℕ × List ℕ)) (results : ℕ → Result (List ℕ) MeasureError) (session : Session) → IsFine keys results session (just_opened session)
 fine_opened keys results session = record { plays = record { same = refl; stands = refl; entries = (tt, tt) }; zeros = tt }
@@ -221,14 +221,14 @@ module _ (keys : List (List ℕ × List ℕ)) (results : ℕ → Result (List �
       subst (λ o. Goes keys results session walked (with_choice keys walked o)) (sym w.there) (goes_with w.entry (candidate_comes session keys places results walked.history walked.standing w.entry fine.plays.stands still fine.zeros w.among))
 
 -- all sessions of a job, each so
-abbrev AreFine : List (List ℕ × List ℕ) → (ℕ → ℕ → Result (List ℕ) MeasureError) → ℕ → List Session → List Walked → Type 0
+abbrev pub AreFine : List (List ℕ × List ℕ) → (ℕ → ℕ → Result (List ℕ) MeasureError) → ℕ → List Session → List Walked → Type 0
 AreFine keys results number [] [] = Unit {0}
 AreFine keys results number [] (walked ∷ all) = ⊥
 AreFine keys results number (session ∷ sessions) [] = ⊥
 AreFine keys results number (session ∷ sessions) (walked ∷ all) =
     IsFine keys (results number) session walked × AreFine keys results (number + 1) sessions all
 
-fine_all : (keys : List (List ℕ × List ℕ)) (results : ℕ → ℕ → Result (List ℕ) MeasureError) (number : ℕ) (sessions : List Session) → AreFine keys results number sessions (all_opened sessions)
+pub fine_all : (keys : List (List ℕ × List ℕ)) (results : ℕ → ℕ → Result (List ℕ) MeasureError) (number : ℕ) (sessions : List Session) → AreFine keys results number sessions (all_opened sessions)
 fine_all keys results number [] = tt
 fine_all keys results number (session ∷ sessions) = (fine_opened keys (results number) session, fine_all keys results (number + 1) sessions)
 
@@ -239,7 +239,7 @@ fine_played keys results number (session ∷ sessions) [] f = f
 fine_played keys results number (session ∷ sessions) (walked ∷ all) f = (f.0.plays, fine_played keys results (number + 1) sessions all f.1)
 
 -- the entries of all histories
-abbrev total : List Walked → ℕ
+abbrev pub total : List Walked → ℕ
 total [] = 0
 total (walked ∷ all) = length walked.history + total all
 
@@ -259,19 +259,19 @@ none_open keys results number [] [] f e = refl
 none_open keys results number [] (walked ∷ all) f e = absurd f
 none_open keys results number (session ∷ sessions) all f e = absurd (omega (arith, e))
 
-running_open : (state : State) → is_running state ≡ true → state ≡ is_open
+pub running_open : (state : State) → is_running state ≡ true → state ≡ is_open
 running_open is_open e = refl
 running_open (is_done value) e = absurd (cc)
 running_open (has_failed event fault) e = absurd (cc)
 running_open (has_starved event) e = absurd (cc)
 
-clash : (b : Bool) → b ≡ true → b ≡ false → ⊥
+pub clash : (b : Bool) → b ≡ true → b ≡ false → ⊥
 clash b e f = cc
 
 -- one session moves: the others stay, and one entry is added where one is open at the index
-record MovesOne (keys : List (List ℕ × List ℕ)) (results : ℕ → ℕ → Result (List ℕ) MeasureError) (number : ℕ) (sessions : List Session) (all : List Walked) (k : ℕ) (after_it : List Walked) : Type 0 where
-  fine : AreFine keys results number sessions after_it
-  grown : k < open_count all → total after_it ≡ total all + 1
+pub record MovesOne (keys : List (List ℕ × List ℕ)) (results : ℕ → ℕ → Result (List ℕ) MeasureError) (number : ℕ) (sessions : List Session) (all : List Walked) (k : ℕ) (after_it : List Walked) : Type 0 where
+  pub fine : AreFine keys results number sessions after_it
+  pub grown : k < open_count all → total after_it ≡ total all + 1
 
 module _ (places : List (List ℕ)) (keys : List (List ℕ × List ℕ)) (results : ℕ → ℕ → Result (List ℕ) MeasureError) where
   passed_over : (number : ℕ) (session : Session) (sessions : List Session) (walked : Walked) (rest : List Walked) (k j : ℕ) (from : Option ℕ) → IsFine keys (results number) session walked → (k < open_count (walked ∷ rest) → j < open_count rest) → MovesOne keys results (number + 1) sessions rest j (moved_on places keys results (number + 1) rest j from).all → MovesOne keys results number (session ∷ sessions) (walked ∷ rest) k (ahead walked (moved_on places keys results (number + 1) rest j from)).all
@@ -280,7 +280,7 @@ module _ (places : List (List ℕ)) (keys : List (List ℕ × List ℕ)) (result
     grown = λ lt. omega (arith, m.grown (less lt));
   }
 
-  moves_one : (number : ℕ) (sessions : List Session) (all : List Walked) (k : ℕ) (from : Option ℕ) → AskOnly places sessions → AreFine keys results number sessions all → MovesOne keys results number sessions all k (moved_on places keys results number all k from).all
+  pub moves_one : (number : ℕ) (sessions : List Session) (all : List Walked) (k : ℕ) (from : Option ℕ) → AskOnly places sessions → AreFine keys results number sessions all → MovesOne keys results number sessions all k (moved_on places keys results number all k from).all
   moves_one number [] [] k from only fine = record { fine = tt; grown = λ lt. absurd (omega (arith, lt)) }
   moves_one number [] (walked ∷ rest) k from only fine = absurd fine
   moves_one number (session ∷ sessions) [] k from only fine = absurd fine
