@@ -23,3 +23,4 @@ pub mod ScheduleLaws
 pub mod NextEvent
 pub mod RisingLaws
 pub mod RisingRecords
+pub mod LegalSchedules

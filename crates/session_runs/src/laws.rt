@@ -10,7 +10,7 @@ ghost use Rattle.session_runs.specs.Standing.{Block, root, Move, Entry, is_open,
 ghost use Rattle.session_runs.specs.History.{standing_after, IsResult, IsLegal, record_of};
 ghost use Rattle.session_runs.specs.MoveOrder.{Ready, ready_of, possible_moves};
 ghost use Rattle.session_runs.specs.Schedule.{scheduled};
-ghost use Rattle.session_runs.specs.Played.{AsksOnly, AskOnly, ArePlayed, AreOver};
+ghost use Rattle.session_runs.specs.Played.{AsksOnly, AskOnly, ArePlayed, AreOver, AllMeasured, AreLegal};
 ghost use Rattle.session_runs.specs.Rising.{IsRising, AreRising};
 ghost use Rattle.session_runs.specs.Progress.{CanMake, IsNotStuck, IsAtOneOf, IsTrulyReady, IsAwaited, movers_in};
 
@@ -93,6 +93,27 @@ pub fn schedule_law()
         AskOnly places sessions →
         ArePlayed keys results 0 sessions (scheduled places keys results sessions number)
         × AreOver (scheduled places keys results sessions number) }
+{}
+
+/// The law of legal schedules: where the results given are those of a bench, the sessions as a schedule
+/// plays them have legal histories.
+pub fn legal_schedule_law<B: Bench>(bench: &B, artefacts: &ArtefactBook)
+    ensures { (places : List (List ℕ)) (keys : List (List ℕ × List ℕ)) (results : ℕ → ℕ → Result (List ℕ) MeasureError) (sessions : List Session) (number : ℕ) →
+        AskOnly places sessions →
+        AllMeasured
+        (λ ask answer. B.gives bench.now artefacts.now ask answer)
+        (λ ask fault. B.fails bench.now artefacts.now ask fault)
+        (λ ask. B.starves bench.now artefacts.now ask)
+        results
+        0
+        sessions →
+        AreLegal
+        (λ ask answer. B.gives bench.now artefacts.now ask answer)
+        (λ ask fault. B.fails bench.now artefacts.now ask fault)
+        (λ ask. B.starves bench.now artefacts.now ask)
+        keys
+        sessions
+        (scheduled places keys results sessions number) }
 {}
 
 /// The law of rising schedules: as the number 0 plays the sessions of a job, the events of each happen in
