@@ -1,4 +1,8 @@
-pub mod FormLemmas
-pub mod OutcomeLemmas
 pub mod WordLemmas
+pub mod PortLemmas
+pub mod FindingLemmas
+pub mod FoundLemmas
+pub mod OutcomeLemmas
+pub mod PlainLemmas
+pub mod RecordLemmas
 pub mod AnswerLemmas

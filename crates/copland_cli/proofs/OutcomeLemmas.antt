@@ -1,21 +1,12 @@
--- From what was done with a session to what the bytes decide.
-use Rattle.std.proofs.Common.{ℕ, List}
-use Rattle.bench_trait.specs.declared.ask.Ask.{Ask}
-use Rattle.bench_trait.specs.declared.bench.BenchFault.{BenchFault}
+-- From what bytes decide to what the source decides that gave them.
+use Rattle.std.proofs.Common.{ℕ, Bool, List, inl, inr}
 use Rattle.session_model.specs.Session.{Session}
-use Rattle.copland_cli.specs.Finding.{IsFinding, first_job}
-use Rattle.copland_cli.specs.Found.{IsWalkOn}
-use Rattle.copland_cli.specs.Outcome.{IsWalkOf}
+use Rattle.copland_cli.specs.Outcome.{IsRun, IsRunOf}
+use Rattle.copland_cli.specs.Run.{Port, IsInput}
 use Rattle.copland_cli.specs.declared.outcome.Outcome.{Outcome}
 use Rattle.copland_cli.specs.declared.outcome.Outcome.TheVariants.{Refused, Reported}
-use Rattle.copland_cli.specs.declared.refusal.Refusal.TheVariants.{Words, Unbuilt, ReadFault, TooLong, NotJson, NoMemory}
 
-pub walk_on : (Gives : Ask → List ℕ → Type 0) (Fails : Ask → BenchFault → Type 0) (bytes : List ℕ) (job : Session) (outcome : Outcome) → IsFinding bytes (first_job job) → IsWalkOn Gives Fails job outcome → IsWalkOf Gives Fails bytes outcome
-walk_on Gives Fails bytes job (Refused Words) found h = absurd cc
-walk_on Gives Fails bytes job (Refused Unbuilt) found h = absurd cc
-walk_on Gives Fails bytes job (Refused ReadFault) found h = absurd cc
-walk_on Gives Fails bytes job (Refused TooLong) found h = absurd cc
-walk_on Gives Fails bytes job (Refused NotJson) found h = absurd cc
-walk_on Gives Fails bytes job (Refused NoMemory) found h = tt
-walk_on Gives Fails bytes job (Reported report) found h =
-    record { job = job; found = h.0; read = found; right = h.1; reported = h.2; failures = h.3 }
+pub run_over : (Says : Session → List ℕ → Bool → Type 0) (source : Port) (bytes : List ℕ) (outcome : Outcome) → IsInput source bytes → IsRunOf Says bytes outcome → IsRun Says source outcome
+run_over Says source bytes (Refused refused) input (inl memory) = inr (inr (inl ((bytes, input.given, input.short), memory)))
+run_over Says source bytes (Refused refused) input (inr found) = inr (inr (inr (found.0, (bytes, input, found.1), found.2)))
+run_over Says source bytes (Reported report) input h = (h.0, (bytes, input, h.1), h.2)

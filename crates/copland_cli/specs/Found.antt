@@ -1,30 +1,22 @@
--- What the code finds in bytes, and what it does with the session that it finds.
-use Rattle.std.specs.Prelude.{◌≡◌, ℕ, List}
-use Rattle.bench_trait.specs.declared.ask.Ask.{Ask}
-use Rattle.bench_trait.specs.declared.bench.BenchFault.{BenchFault}
-use Rattle.session_model.specs.Session.{Session}
-use Rattle.session_model.specs.Record.{Record, IsRisingRecord}
-use Rattle.copland_cli.specs.Finding.{IsFinding, no_json, no_first_form, first_job}
+-- What the code finds in bytes.
+use Rattle.std.specs.Prelude.{◌≡◌, ◌⊎◌, Some, Result, Ok, Err}
+use Rattle.phrase_tree.specs.Numbering.{IsSized}
 use Rattle.phrase_tree.specs.Term.{term}
-use Rattle.copland_cli.specs.FirstForm.{IsPlain}
+use Rattle.copland_cli.specs.Finding.{Finding, first_job}
+use Rattle.copland_cli.specs.FirstForm.{IsBuiltPhrase}
 use Rattle.copland_cli.specs.FirstSession.{session}
-use Rattle.copland_cli.specs.Outcome.{is_failed}
-use Rattle.copland_cli.specs.Report.{record_text}
-use Rattle.copland_cli.specs.declared.outcome.Found.{Found}
-use Rattle.copland_cli.specs.declared.outcome.Found.TheVariants.{Job, NoFirstForm, NoJson, NoMemory}
-use Rattle.copland_cli.specs.declared.outcome.Outcome.{Outcome}
-use Rattle.copland_cli.specs.declared.outcome.Outcome.TheVariants.{Refused, Reported}
-use Rattle.copland_cli.specs.declared.refusal.Refusal.TheVariants as refusal
+use Rattle.copland_cli.specs.Refused.{refusal_at}
+use Rattle.copland_cli.specs.declared.first_form.FirstSession.{FirstSession}
+use Rattle.copland_cli.specs.declared.refusal.Refusal.{Refusal}
+use Rattle.copland_cli.specs.declared.refusal.Refusal.TheVariants.{NoMemory}
 
--- the bytes are what the code took them for
-abbrev pub IsFoundIn : List ℕ → Found → Type 0
-IsFoundIn bytes (Job first) = IsFinding bytes (first_job (session first)) × IsPlain (term first.phrase)
-IsFoundIn bytes NoFirstForm = IsFinding bytes no_first_form
-IsFoundIn bytes NoJson = IsFinding bytes no_json
-IsFoundIn bytes NoMemory = Unit {0}
+-- the code answers what is so: the session of a job, or the refusal that what was found calls for
+abbrev pub IsFound : (Finding → Type 0) → Result FirstSession Refusal → Type 0
+IsFound IsSo (Ok first) = IsSo (first_job (session first))
+IsFound IsSo (Err refused) =
+    (refused ≡ NoMemory) ⊎ ((finding : Finding) × IsSo finding × (refusal_at finding ≡ Some refused))
 
--- a report of a right record of the session, or want of memory
-abbrev pub IsWalkOn : (Ask → List ℕ → Type 0) → (Ask → BenchFault → Type 0) → Session → Outcome → Type 0
-IsWalkOn Gives Fails job (Refused refused) = refused ≡ refusal.NoMemory
-IsWalkOn Gives Fails job (Reported report) =
-    (found : Record) × ((keys : List (List ℕ × List ℕ)) → IsRisingRecord Gives Fails job keys found) × (report.text ≡ record_text 0 found) × (report.some_failed ≡ is_failed found)
+-- a session that can be walked
+pub record CanWalk (first : FirstSession) : Type 0 where
+  pub sized : IsSized (term first.phrase)
+  pub built : IsBuiltPhrase (term first.phrase)

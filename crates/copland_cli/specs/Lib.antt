@@ -2,10 +2,12 @@ pub mod Status
 pub mod Words
 pub mod FirstForm
 pub mod FirstSession
+pub mod Finding
+pub mod Refusal
+pub mod Refused
 pub mod Report
 pub mod Recorded
-pub mod Refusal
-pub mod Finding
+pub mod Reported
 pub mod Run
 pub mod Outcome
 pub mod Found

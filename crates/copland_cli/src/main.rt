@@ -4,6 +4,7 @@
 #![tactic(auto)]
 
 mod first_form;
+mod line;
 mod outcome;
 mod record;
 mod refusal;

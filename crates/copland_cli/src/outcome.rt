@@ -1,9 +1,9 @@
-ghost use Rattle.std.specs.Prelude.{[]};
-ghost use Rattle.phrase_tree.specs.Term.{term};
-ghost use Rattle.copland_cli.specs.FirstForm.{IsPlain};
+ghost use Rattle.std.specs.Prelude.{[], IfOk};
+ghost use Rattle.copland_cli.specs.Finding.{IsFinding};
 ghost use Rattle.copland_cli.specs.FirstSession.{session};
-ghost use Rattle.copland_cli.specs.Found.{IsFoundIn, IsWalkOn};
-ghost use Rattle.copland_cli.specs.Outcome.{IsDecided, IsWalk, IsWalkOf};
+ghost use Rattle.copland_cli.specs.Found.{CanWalk, IsFound};
+ghost use Rattle.copland_cli.specs.Outcome.{IsDecided, IsRun, IsRunOf};
+ghost use Rattle.copland_cli.specs.Reported.{IsWalkReport};
 ghost use Rattle.copland_cli.specs.Words.{texts};
 
 use crate::first_form::{FirstSession, first_session};
@@ -11,8 +11,10 @@ use crate::refusal::Refusal;
 use crate::report::push_record;
 use crate::walk::walk_rising;
 use crate::words::{Command, command_of};
-use bench_trait::Bench;
+use bench_trait::{ArtefactBook, Bench};
 use byte_ports::{Bytes, ReadAllError, Source, read_all};
+use phrase_tree::NoMemory;
+use seal_hmac::KeyRing;
 use serde_json::Value;
 use std::alloc::Global;
 
@@ -60,9 +62,13 @@ pub fn decide<S: Source, B: Bench>(
 }
 
 fn walk<S: Source, B: Bench>(alloc: Global, source: &mut S, bench: &B) -> Outcome
-    ensures { IsWalk
+    ensures { IsRun
+        (λ job text some_failed. IsWalkReport
         (λ ask answer. B.gives bench.now [] ask answer)
         (λ ask fault. B.fails bench.now [] ask fault)
+        job
+        text
+        some_failed)
         (record {
           bytes_before = S.left source.old;
           bytes_after = S.left source.new;
@@ -80,63 +86,56 @@ fn walk<S: Source, B: Bench>(alloc: Global, source: &mut S, bench: &B) -> Outcom
 }
 
 fn walk_bytes<B: Bench>(alloc: Global, bytes: &[u8], bench: &B) -> Outcome
-    ensures { IsWalkOf
+    ensures { IsRunOf
+        (λ job text some_failed. IsWalkReport
         (λ ask answer. B.gives bench.now [] ask answer)
         (λ ask fault. B.fails bench.now [] ask fault)
+        job
+        text
+        some_failed)
         bytes.now
         result }
 {
     match found_in(alloc, bytes) {
-        Found::Job(first) => walk_first(alloc, &first, bench),
-        Found::NoFirstForm => Outcome::Refused(Refusal::Unbuilt),
-        Found::NoJson => Outcome::Refused(Refusal::NotJson),
-        Found::NoMemory => Outcome::Refused(Refusal::NoMemory),
+        Ok(first) => match report_walk(alloc, &first, bench) {
+            Ok(report) => Outcome::Reported(report),
+            Err(_) => Outcome::Refused(Refusal::NoMemory),
+        },
+        Err(refused) => Outcome::Refused(refused),
     }
 }
 
-/// What the bytes turned out to be.
-#[derive(Debug, Drop)]
-enum Found {
-    Job(FirstSession),
-    NoFirstForm,
-    NoJson,
-    NoMemory,
-}
-
-fn found_in(alloc: Global, bytes: &[u8]) -> Found
-    ensures { IsFoundIn bytes.now result }
+fn found_in(alloc: Global, bytes: &[u8]) -> Result<FirstSession, Refusal>
+    ensures found { IsFound (λ finding. IsFinding bytes.now finding) result }
+    ensures walks { IfOk result (λ first. CanWalk first) }
 {
     match Value::from_slice(alloc, bytes) {
-        Ok(tree) => match first_session(&tree) {
-            Some(first) => Found::Job(first),
-            None => Found::NoFirstForm,
-        },
+        Ok(tree) => first_session(alloc, &tree),
         Err(error) => {
             if error.is_memory() {
-                Found::NoMemory
+                Err(Refusal::NoMemory)
             } else {
-                Found::NoJson
+                Err(Refusal::NotJson)
             }
         }
     }
 }
 
-fn walk_first<B: Bench>(alloc: Global, first: &FirstSession, bench: &B) -> Outcome
-    requires { IsPlain (term first.now.phrase) }
-    ensures { IsWalkOn
+fn report_walk<B: Bench>(alloc: Global, first: &FirstSession, bench: &B) -> Result<Report, NoMemory>
+    requires { CanWalk first.now }
+    ensures { IfOk result (λ report. IsWalkReport
         (λ ask answer. B.gives bench.now [] ask answer)
         (λ ask fault. B.fails bench.now [] ask fault)
         (session first.now)
-        result }
+        report.text
+        report.some_failed) }
 {
-    let Ok(record) = walk_rising(alloc, first, bench) else {
-        return Outcome::Refused(Refusal::NoMemory);
-    };
+    let keys = KeyRing::of(Vec::new(alloc));
+    let artefacts = ArtefactBook::empty(alloc);
+    let record = walk_rising(alloc, first, &keys, &artefacts, bench)?;
     let mut text = Vec::new(alloc);
-    let Ok(()) = push_record(&mut text, 0, &record) else {
-        return Outcome::Refused(Refusal::NoMemory);
-    };
-    Outcome::Reported(Report {
+    push_record(&mut text, 0, &record)?;
+    Ok(Report {
         text: Bytes::of(text),
         some_failed: record.is_failed(),
     })

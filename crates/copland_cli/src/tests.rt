@@ -1,7 +1,8 @@
 use crate::status::Status;
 use crate::top::plain_top;
-use bench_trait::DigestBench;
+use bench_trait::{Bench, BenchFault, DigestBench, TableBench, TableResult, TableRow};
 use byte_ports::{Behaviour, MemSink, MemSource};
+use evidence_types::Answer;
 use std::alloc::Global;
 use std::test::Fail;
 
@@ -46,6 +47,19 @@ fn expect_run(
     ports: &Ports<'_>,
     want: (Status, &str),
 ) -> Result<(), Fail> {
+    expect_with(rt, alloc, words, input, ports, &DigestBench, want)
+}
+
+/// The same with this bench.
+fn expect_with<B: Bench>(
+    rt: &impl std::process::Abort,
+    alloc: Global,
+    words: &str,
+    input: &[u8],
+    ports: &Ports<'_>,
+    bench: &B,
+    want: (Status, &str),
+) -> Result<(), Fail> {
     let mut list = Vec::new(alloc);
     for word in words.split(' ') {
         if !word.is_empty() {
@@ -59,10 +73,23 @@ fn expect_run(
     );
     let failing = Vec::from_slice(alloc, ports.sink_failing)?;
     let mut sink = MemSink::of(alloc, Behaviour::of(ports.sink_most.max(1), failing));
-    let status = plain_top(alloc, list.as_slice(), &mut source, &mut sink, &DigestBench);
+    let status = plain_top(alloc, list.as_slice(), &mut source, &mut sink, bench);
     assert_eq!(rt; status, want.0, "at the words {words}");
     assert_eq!(rt; sink.taken(), want.1.as_bytes(), "at the words {words}");
     Ok(())
+}
+
+/// A row of a bench for the nonce of `job_of`.
+fn row(event: u32, found: TableResult) -> TableRow {
+    TableRow {
+        nonce: [0, 1, 2, 3, 4, 5, 6, 7, 8, 9, 10, 11, 12, 13, 14, 15],
+        event,
+        outcome: found,
+    }
+}
+
+fn answer(rt: &impl std::process::Abort, bytes: &[u8]) -> TableResult {
+    TableResult::Answer(Answer::of(bytes).expect(rt, "a short answer"))
 }
 
 #[test]
@@ -118,21 +145,148 @@ fn words_are_told_apart(rt: HostRuntime) -> Result<(), Fail> {
 #[test]
 fn jobs_are_walked_or_refused(rt: HostRuntime) -> Result<(), Fail> {
     let alloc = rt.alloc();
-    let copied = job_of(alloc, "CPY")?;
-    let sealed = job_of(alloc, "SIG")?;
-    let unbuilt = (Status::Unbuilt, "error: unbuilt\n");
+    for (phrase, want) in [
+        ("CPY", (Status::Good, COPIED)),
+        ("CPY -> (CPY->CPY)", (Status::Good, COPIED_THRICE)),
+        (
+            "USM scan",
+            (
+                Status::SomeFailed,
+                "session 0 failed 0 no-artefact\ntrace\n",
+            ),
+        ),
+        (
+            "CPY -> USM scan 7 -> CPY",
+            (
+                Status::SomeFailed,
+                "session 0 failed 1 no-artefact\ntrace 0\n",
+            ),
+        ),
+        ("SIG", UNBUILT),
+        ("CPY +<+ CPY", UNBUILT),
+        ("@q [CPY]", UNBUILT),
+        ("", (Status::BadPhrase, "error: phrase 0 0 expected\n")),
+        (
+            "CPY CPY",
+            (Status::BadPhrase, "error: phrase 0 4 trailing\n"),
+        ),
+        (
+            "CPY +<* CPY",
+            (Status::BadPhrase, "error: phrase 0 6 char\n"),
+        ),
+        ("USM Scan", (Status::BadPhrase, "error: phrase 0 4 word\n")),
+        (
+            "USM a 4294967296",
+            (Status::BadPhrase, "error: phrase 0 6 number-too-large\n"),
+        ),
+        (
+            "USM a b c d e f",
+            (Status::BadPhrase, "error: phrase 0 14 too-many-args\n"),
+        ),
+    ] {
+        let job = job_of(alloc, phrase)?;
+        expect_run(&rt, alloc, "walk 0", job.as_bytes(), &WHOLE, want)?;
+    }
     let not_json = (Status::NotJson, "error: not json\n");
     for (input, want) in [
-        (copied.as_bytes(), (Status::Good, COPIED)),
-        (sealed.as_bytes(), unbuilt),
         (b"".as_slice(), not_json),
         (b"{".as_slice(), not_json),
-        (b"[]".as_slice(), unbuilt),
-        (b"{\"sessions\":[]}".as_slice(), unbuilt),
+        (b"[]".as_slice(), UNBUILT),
+        (b"{\"sessions\":[]}".as_slice(), UNBUILT),
     ] {
         expect_run(&rt, alloc, "walk 0", input, &WHOLE, want)?;
     }
     Ok(())
+}
+
+const UNBUILT: (Status, &str) = (Status::Unbuilt, "error: unbuilt\n");
+
+const COPIED_THRICE: &str =
+    "session 0 done\ntrace 0 1 2\nbundle 43504c42010000001101000102030405060708090a0b0c0d0e0f\n";
+
+#[test]
+fn a_chain_of_64_is_built(rt: HostRuntime) -> Result<(), Fail> {
+    let alloc = rt.alloc();
+    let mut phrase = String::from_str(alloc, "CPY")?;
+    let mut report = String::from_str(alloc, "session 0 done\ntrace 0")?;
+    for number in 1u32..64 {
+        phrase.push_str(" -> CPY")?;
+        report.push_str(" ")?;
+        report.push_str(itoa::Buffer::new().format(number))?;
+    }
+    report.push_str("\nbundle 43504c42010000001101000102030405060708090a0b0c0d0e0f\n")?;
+    let job = job_of(alloc, phrase.as_str())?;
+    let want = (Status::Good, report.as_str());
+    expect_run(&rt, alloc, "walk 0", job.as_bytes(), &WHOLE, want)?;
+    phrase.push_str(" -> CPY")?;
+    let job = job_of(alloc, phrase.as_str())?;
+    expect_run(&rt, alloc, "walk 0", job.as_bytes(), &WHOLE, UNBUILT)
+}
+
+#[test]
+fn answers_faults_and_want_of_memory_come_from_the_bench(rt: HostRuntime) -> Result<(), Fail> {
+    let alloc = rt.alloc();
+    let mut rows = Vec::new(alloc);
+    rows.push(row(0, answer(&rt, &[0xaa, 0xbb])))?;
+    rows.push(row(1, answer(&rt, &[0x11])))?;
+    let answering = TableBench::of(rows);
+    let scan = job_of(alloc, "USM scan")?;
+    let want = (
+        Status::Good,
+        "session 0 done\ntrace 0\nanswer 0 aabb\nbundle 43504c42010000001a02000000000002aabb01000102030405060708090a0b0c0d0e0f\n",
+    );
+    expect_with(
+        &rt,
+        alloc,
+        "walk 0",
+        scan.as_bytes(),
+        &WHOLE,
+        &answering,
+        want,
+    )?;
+    let two = job_of(alloc, "USM a -> USM b")?;
+    let want = (
+        Status::Good,
+        "session 0 done\ntrace 0 1\nanswer 0 aabb\nanswer 1 11\nbundle 43504c420100000022020000000100011102000000000002aabb01000102030405060708090a0b0c0d0e0f\n",
+    );
+    expect_with(
+        &rt,
+        alloc,
+        "walk 0",
+        two.as_bytes(),
+        &WHOLE,
+        &answering,
+        want,
+    )?;
+    let mut rows = Vec::new(alloc);
+    rows.push(row(0, answer(&rt, &[])))?;
+    rows.push(row(1, TableResult::Fault(BenchFault::Broken(7))))?;
+    rows.push(row(2, answer(&rt, &[0x22])))?;
+    let failing = TableBench::of(rows);
+    let three = job_of(alloc, "USM a -> USM b -> USM a")?;
+    let want = (Status::SomeFailed, "session 0 failed 1 broken 7\ntrace 0\n");
+    expect_with(
+        &rt,
+        alloc,
+        "walk 0",
+        three.as_bytes(),
+        &WHOLE,
+        &failing,
+        want,
+    )?;
+    let mut rows = Vec::new(alloc);
+    rows.push(row(0, TableResult::Starve))?;
+    let starving = TableBench::of(rows);
+    let want = (Status::NoMemory, "error: no memory\n");
+    expect_with(
+        &rt,
+        alloc,
+        "walk 0",
+        scan.as_bytes(),
+        &WHOLE,
+        &starving,
+        want,
+    )
 }
 
 #[test]

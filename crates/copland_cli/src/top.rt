@@ -3,9 +3,12 @@ ghost use Rattle.copland_cli.specs.Answer.{ComesAt, IsAnswer, IsUndisturbed, Tol
 ghost use Rattle.copland_cli.specs.Concluded.{IsConcluded};
 ghost use Rattle.copland_cli.specs.Finding.{Finding};
 ghost use Rattle.copland_cli.specs.Run.{IsBadWords, IsBuilt, IsTooLong};
-ghost use Rattle.copland_cli.specs.Words.{texts};
+ghost use Rattle.copland_cli.specs.Refused.{status_at};
+ghost use Rattle.copland_cli.specs.Words.{Spells, texts};
+ghost use Rattle.copland_cli.specs.declared.words.Command.{Command};
 
 use crate::outcome::{Outcome, decide};
+use crate::refusal::refusal_line;
 use crate::status::Status;
 use bench_trait::Bench;
 use byte_ports::{Sink, Source, write_all_of};
@@ -43,8 +46,9 @@ pub fn plain_top<S: Source, K: Sink, B: Bench>(
     // Bad words are told apart from all else, whatever the ports do.
     ensures bad_words { (result ≡ Status.BadWords) ↔ IsBadWords (texts words.now) }
 
-    // Where nothing else went wrong, each answer comes exactly at its kind of job.
-    ensures exact { (finding : Finding) → IsBuilt (texts words.now)
+    // Where nothing else went wrong, each refusal of a job comes exactly where the bytes call for it.
+    ensures exact { (finding : Finding) (command : Command) → Spells (texts words.now) command
+        → IsBuilt command
         → Told
         (record {
           bytes_before = S.left source.old;
@@ -67,10 +71,12 @@ pub fn plain_top<S: Source, K: Sink, B: Bench>(
           faults_after = K.faults sink.new;
         })
         result
-        → ComesAt finding result }
+        → ComesAt (status_at finding) result }
 
     // A source that tells its bytes gave too many of them exactly where the answer says so.
-    ensures too_long { (left : List ℕ) → IsBuilt (texts words.now) → S.left source.old ≡ Some left
+    ensures too_long { (left : List ℕ) (command : Command) → Spells (texts words.now) command
+        → IsBuilt command
+        → S.left source.old ≡ Some left
         → ((result ≡ Status.TooLong) ↔ IsTooLong
         (record {
           bytes_before = S.left source.old;
@@ -97,7 +103,8 @@ pub fn conclude<K: Sink>(sink: &mut K, outcome: &Outcome) -> Status
 {
     match outcome {
         Outcome::Refused(refusal) => {
-            let _ = write_all_of(sink, refusal.line());
+            let line = refusal_line(refusal);
+            let _ = write_all_of(sink, line.bytes());
             refusal.status()
         }
         Outcome::Reported(report) => match write_all_of(sink, report.text.items()) {

@@ -53,7 +53,7 @@ returns-clause-exact g c =
       faults_before = g.K.Sink.faults c.args.sink.now;
       faults_after = g.K.Sink.faults c.conclude.new.sink;
     } in
-    λ finding built told calm. exact (λ ask answer. g.B.Bench.gives c.args.bench.now [] ask answer) (λ ask fault. g.B.Bench.fails c.args.bench.now [] ask fault) (texts c.args.words.now) source sink c.decide-outcome.result c.conclude.result finding c.decide-outcome.ensures c.conclude.ensures built told calm
+    λ finding command spelled built told calm. exact (λ ask answer. g.B.Bench.gives c.args.bench.now [] ask answer) (λ ask fault. g.B.Bench.fails c.args.bench.now [] ask fault) (texts c.args.words.now) source sink c.decide-outcome.result c.conclude.result finding command c.decide-outcome.ensures c.conclude.ensures spelled built told calm
 
 pub returns-clause-too_long : goal.returns-clause-too_long
 returns-clause-too_long g c =
@@ -69,4 +69,4 @@ returns-clause-too_long g c =
       faults_before = g.K.Sink.faults c.args.sink.now;
       faults_after = g.K.Sink.faults c.conclude.new.sink;
     } in
-    λ left built told. too_long (λ ask answer. g.B.Bench.gives c.args.bench.now [] ask answer) (λ ask fault. g.B.Bench.fails c.args.bench.now [] ask fault) (texts c.args.words.now) source sink c.decide-outcome.result c.conclude.result left c.decide-outcome.ensures c.conclude.ensures built told
+    λ left command spelled built told. too_long (λ ask answer. g.B.Bench.gives c.args.bench.now [] ask answer) (λ ask fault. g.B.Bench.fails c.args.bench.now [] ask fault) (texts c.args.words.now) source sink c.decide-outcome.result c.conclude.result left command c.decide-outcome.ensures c.conclude.ensures spelled built told

@@ -1,0 +1,7 @@
+-- The artefacts before the index were read.
+use Rattle.job_reader.specs.Form.{artefact_in}
+use Rattle.job_reader.specs.Reading.{IsReadTo}
+use Rattle.job_reader.proofs.artefacts.artefacts_in.Given as goal
+
+abbrev pub invariant-loop-index : goal.invariant-loop-index
+invariant-loop-index l = IsReadTo artefact_in l.items l.index l.artefacts.items

@@ -1,0 +1,7 @@
+-- The places before the index were read.
+use Rattle.job_reader.specs.Form.{place_in}
+use Rattle.job_reader.specs.Reading.{IsReadTo}
+use Rattle.job_reader.proofs.places.places_in.Given as goal
+
+abbrev pub invariant-loop-index : goal.invariant-loop-index
+invariant-loop-index l = IsReadTo place_in l.items l.index l.places.items

@@ -1,0 +1,24 @@
+//! Reads a job: one JSON text to places, artefacts, sessions, references and a bundle, or to its first
+//! refusal. `specs/Form.antt` has the walk over the tree, whose first fault refuses a job of bad form;
+//! `specs/Whole.antt` the seven tests over the whole job, in their order; `specs/Finding.antt` what the
+//! bytes of a job turn out to be. The format is this project's own.
+#![tactic(auto)]
+
+mod accepted;
+mod artefacts;
+mod books;
+mod bundle;
+mod checks;
+mod field;
+mod form;
+mod path;
+mod places;
+mod references;
+mod phrases;
+mod refusal;
+mod roots;
+mod sessions;
+mod written;
+
+pub use accepted::{BundleIn, Job};
+pub use refusal::JobError;

@@ -1,0 +1,10 @@
+//! The texts in which sessions are reported. They are this project's own; each is a definition in
+//! `specs/`, and the call that makes it gives exactly that text.
+#![tactic(auto)]
+
+mod events;
+mod line;
+#[cfg(test)]
+mod tests;
+
+pub use events::events_text;
