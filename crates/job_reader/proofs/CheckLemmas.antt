@@ -1,5 +1,5 @@
 -- The sessions that were checked against the places.
-use Rattle.std.proofs.Common.{◌≡◌, ◌<◌, ◌+◌, ℕ, zero, suc, List, [], ◌∷◌, ◌++◌, length, map, refl, sym, ap, ◌∙◌, subst, arith, Option, None, Some}
+use Rattle.std.proofs.Common.{◌≡◌, ℕ, suc, List, [], ◌∷◌, ◌++◌, length, map, refl, sym, ap, ◌∙◌, subst, Option, Some}
 use Rattle.session_model.specs.Session.{Session}
 use Rattle.place_check.specs.declared.entry.PlaceEntry.{PlaceEntry}
 use Rattle.place_check.specs.declared.entry.PlaceKind.{PlaceKind}
@@ -35,20 +35,20 @@ kept_of (first ∷ rest) checked = ap (λ (list : List Session). session_of firs
 pub kept_more : (places : List PlaceEntry) (front : List ReadSession) (kept more : List CheckedSession) (x : ReadSession) (checked : CheckedSession) → AreKept places (read_sessions front) kept → session_of checked ≡ read_session x → IsRunnable places (read_session x) → more ≡ kept ++ checked ∷ [] → AreKept places (read_sessions (front ++ x ∷ [])) more
 kept_more places front kept more x checked before is here grown = record {
   same =
-    ap (λ (list : List CheckedSession). map session_of list) grown
-    ∙ kept_of kept checked
-    ∙ ap (λ (list : List Session). list ++ session_of checked ∷ []) before.same
-    ∙ ap (λ (session : Session). read_sessions front ++ session ∷ []) is
-    ∙ sym (read_more front x);
+      ap (λ (list : List CheckedSession). map session_of list) grown
+      ∙ kept_of kept checked
+      ∙ ap (λ (list : List Session). list ++ session_of checked ∷ []) before.same
+      ∙ ap (λ (session : Session). read_sessions front ++ session ∷ []) is
+      ∙ sym (read_more front x);
   runnable =
-    subst (λ list. AreRunnable places list) (sym (read_more front x)) (runnable_more places (read_sessions front) (read_session x) before.runnable here);
+      subst (λ list. AreRunnable places list) (sym (read_more front x)) (runnable_more places (read_sessions front) (read_session x) before.runnable here);
 }
 
 read_split : (front : List ReadSession) (x : ReadSession) (rest : List ReadSession) → read_sessions (front ++ x ∷ rest) ≡ read_sessions front ++ read_session x ∷ read_sessions rest
 read_split [] x rest = refl
 read_split (y ∷ front) x rest = ap (λ (list : List Session). read_session y ∷ list) (read_split front x rest)
 
-read_length : (front : List ReadSession) → length (read_sessions front) ≡ length front
+pub read_length : (front : List ReadSession) → length (read_sessions front) ≡ length front
 read_length [] = refl
 read_length (y ∷ front) = ap (λ n. suc n) (read_length front)
 

@@ -1,9 +1,8 @@
 -- Facts of each session before an index, and the least index of which something holds.
-use Rattle.std.proofs.Common.{◌≡◌, ◌<◌, ◌+◌, ◌⊎◌, ℕ, zero, suc, Bool, true, false, IsTrue, List, [], ◌∷◌, ◌++◌, length, map, get_or, refl, sym, ap, ◌∙◌, subst, arith, Option, None, Some, slice_get, inl, inr}
+use Rattle.std.proofs.Common.{◌≡◌, ◌<◌, ◌+◌, ℕ, zero, suc, true, false, List, [], ◌∷◌, length, map, get_or, refl, sym, ap, subst, arith, Some, slice_get, inl, inr}
 use Rattle.std.proofs.lemmas.Bool.{cases_eq}
 use Rattle.place_check.specs.declared.entry.PlaceEntry.{PlaceEntry}
 use Rattle.place_check.specs.Places.{is_place}
-use Rattle.job_reader.specs.declared.refusal.JobError.{JobError}
 use Rattle.job_reader.specs.declared.refusal.JobError.TheVariants.{BadRoot}
 use Rattle.job_reader.specs.declared.sessions.SessionText.{SessionText}
 use Rattle.job_reader.specs.Form.{WrittenSession}
@@ -41,11 +40,12 @@ within (y ∷ rest) (suc index) x is = let below = within rest index x is in ome
 pub before_more : (Holds : WrittenSession → Type 0) (sessions : List WrittenSession) (index : ℕ) (x : WrittenSession) → HoldsBefore Holds sessions index → slice_get sessions index ≡ Some x → Holds x → HoldsBefore Holds sessions (index + 1)
 before_more Holds sessions index x before at here earlier session below is =
     elim (cases_eq earlier index) [
-      inl same ↦
-        let found : slice_get sessions index ≡ Some session = subst (λ n. slice_get sessions n ≡ Some session) same is in
-        let one : x ≡ session = cc in
-        subst Holds one here
-    | inr other ↦ before earlier session (omega arith) is ]
+      | inl same ↦
+          let found : slice_get sessions index ≡ Some session = subst (λ n. slice_get sessions n ≡ Some session) same is in
+          let one : x ≡ session = cc in
+          subst Holds one here
+      | inr other ↦ before earlier session (omega arith) is
+    ]
 
 -- the first of which it holds
 pub least_at : (Bad : WrittenSession → Type 0) (sessions : List WrittenSession) (index : ℕ) (x : WrittenSession) → HoldsBefore (λ session. ¬ (Bad session)) sessions index → slice_get sessions index ≡ Some x → Bad x → IsLeast (IsAt sessions Bad) index

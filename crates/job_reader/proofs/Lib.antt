@@ -3,3 +3,10 @@ pub mod RepeatLemmas
 pub mod LeastLemmas
 pub mod PhraseLemmas
 pub mod CheckLemmas
+pub mod NonceLemmas
+pub mod ReadLemmas
+pub mod AcceptLemmas
+pub mod RefusalLemmas
+pub mod FindingLemmas
+pub mod AnswerLemmas
+pub mod AskLemmas

@@ -1,16 +1,14 @@
 -- Lists whose items may repeat earlier ones, and what the tests for repeats find in them.
-use Rattle.std.proofs.Common.{◌≡◌, ◌<◌, ◌≤◌, ◌+◌, ℕ, zero, suc, Bool, true, false, cond, List, [], ◌∷◌, ◌++◌, length, take, refl, sym, ap, ◌∙◌, subst, arith, Option, None, Some, slice_get, inl, inr, ◌⊎◌, add-one}
-use Rattle.std.specs.Prelude.{option_and_then}
+use Rattle.std.proofs.Common.{◌≡◌, ◌<◌, ◌+◌, ℕ, zero, suc, List, [], ◌∷◌, ◌++◌, length, refl, sym, ap, ◌∙◌, subst, arith, Option, None, Some}
 use Rattle.place_check.specs.declared.entry.PlaceEntry.{PlaceEntry}
 use Rattle.place_check.specs.Places as places
 use Rattle.reference_book.specs.declared.reference.Reference.{Reference}
 use Rattle.reference_book.specs.References as references
 use Rattle.bench_trait.specs.declared.artefacts.Artefact.{Artefact}
-use Rattle.job_reader.specs.declared.refusal.JobError.{JobError}
-use Rattle.job_reader.specs.declared.refusal.JobError.TheVariants.{RepeatedPlace, RepeatedArtefact, RepeatedReference, RepeatedNonce}
+use Rattle.job_reader.specs.declared.refusal.JobError.TheVariants.{RepeatedPlace, RepeatedArtefact, RepeatedReference}
 use Rattle.bench_trait.specs.Artefacts.{artefact_index}
 use Rattle.job_reader.specs.Testing.{IsBookOf}
-use Rattle.job_reader.specs.Whole.{IsFirstRepeat, FindsNothing, FindsTwoPlaces, FindsTwoReferences, FindsTwoArtefacts, FindsTwoNonces, repeats_by, artefact_repeats, nonce_repeats, same_artefact, same_nonce}
+use Rattle.job_reader.specs.Whole.{IsFirstRepeat, FindsNothing, FindsTwoPlaces, FindsTwoReferences, FindsTwoArtefacts, repeats_by, artefact_repeats, same_artefact}
 
 none_is_some : {A : Type 0} (o : Option A) (x : A) → o ≡ None → o ≡ Some x → ⊥
 none_is_some o x none some = cc
@@ -70,7 +68,7 @@ book_more artefacts book second x new is absent added = record {
   kept = added ∙ ap (λ list. list ++ x ∷ []) is.kept;
   numbered = let numbered = is.numbered in let more = length_more artefacts x in omega arith;
   distinct =
-    no_more_repeats same_artefact artefacts x is.distinct (subst (λ list. artefact_index list x.place x.name ≡ None) is.kept absent);
+      no_more_repeats same_artefact artefacts x is.distinct (subst (λ list. artefact_index list x.place x.name ≡ None) is.kept absent);
 }
 
 -- the book has that artefact already

@@ -1,5 +1,5 @@
 -- What `job_of` answers, and what an accepted job promises.
-use Rattle.std.specs.Prelude.{◌≡◌, ℕ, map, Some, Result, Ok, Err, slice_get}
+use Rattle.std.specs.Prelude.{◌≡◌, ◌⊎◌, Bool, ℕ, map, Some, Result, Ok, Err, slice_get}
 use Rattle.place_check.specs.Session.{CheckedSession, IsBounded, IsCheckedAgainst, session_of}
 use Rattle.phrase_tree.specs.Term.{term}
 use Rattle.session_model.specs.Session.{Session}
@@ -7,8 +7,11 @@ use Rattle.bench_trait.specs.declared.ask.Ask.{Ask}
 use Rattle.session_model.specs.Session.{session_questions}
 use Rattle.job_reader.specs.declared.accepted.Job.{Job}
 use Rattle.job_reader.specs.declared.refusal.JobError.{JobError}
-use Rattle.job_reader.specs.declared.refusal.JobError.TheVariants.{NoMemory}
-use Rattle.job_reader.specs.Finding.{Finding, accepted, refused, JobView}
+use Rattle.job_reader.specs.declared.refusal.JobError.TheVariants.{BadJob, NoMemory}
+use Rattle.serde_json.specs.Data.{Data}
+use Rattle.job_reader.specs.Form.{Fault, Written, written_in}
+use Rattle.job_reader.specs.Whole.{FirstFinds, tests}
+use Rattle.job_reader.specs.Finding.{IsJobOf, Finding, accepted, refused, JobView}
 
 -- the job as clauses see it
 abbrev pub job_view : Job → JobView
@@ -40,3 +43,16 @@ HasCheckedSessions job =
 abbrev pub AskApart : Session → Session → Type 0
 AskApart session other =
     (i j : ℕ) (ask same : Ask) → slice_get (session_questions session) i ≡ Some ask → slice_get (session_questions other) j ≡ Some same → ¬ (ask ≡ same)
+
+-- the job that is written, where no test over the whole of it finds anything, or what the first test that
+-- finds something finds
+abbrev pub Accepts : Written → Result Job JobError → Type 0
+Accepts text (Ok job) = IsJobOf text (job_view job)
+Accepts text (Err error) = ¬ (error ≡ NoMemory) → FirstFinds tests text error
+
+-- the job that is written in a tree, or its refusal
+abbrev pub AnswersTree : Bool → Data → Result Job JobError → Type 0
+AnswersTree appraise tree (Ok job) =
+    (text : Written) × (written_in appraise tree ≡ Ok text) × IsJobOf text (job_view job)
+AnswersTree appraise tree (Err error) =
+    ¬ (error ≡ NoMemory) → ((fault : Fault) × (written_in appraise tree ≡ Err fault) × (error ≡ BadJob fault.at fault.kind)) ⊎ ((text : Written) × (written_in appraise tree ≡ Ok text) × FirstFinds tests text error)

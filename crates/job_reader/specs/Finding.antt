@@ -52,10 +52,9 @@ pub record IsRefusedFor (bytes : List ℕ) (appraise : Bool) (error : JobError) 
   pub written : IsWritten bytes appraise job
   pub found : FirstFinds tests job error
 
--- no test over the whole job finds anything, and this is the job, whose sessions may all be run
-pub record IsAccepted (bytes : List ℕ) (appraise : Bool) (job : JobView) : Type 0 where
-  pub text : Written
-  pub written : IsWritten bytes appraise text
+-- no test over the whole job finds anything, and its sessions, which may all be run, are those that
+-- are written
+pub record IsJobOf (text : Written) (job : JobView) : Type 0 where
   pub passed : NoneFinds tests text
   pub places : job.places ≡ text.places
   pub artefacts : job.artefacts ≡ text.artefacts
@@ -63,6 +62,12 @@ pub record IsAccepted (bytes : List ℕ) (appraise : Bool) (job : JobView) : Typ
   pub references : job.references ≡ text.references
   pub bundle : job.bundle ≡ text.bundle
   pub runnable : AreRunnable job.places job.sessions
+
+-- the bytes are a tree without a fault of form, and this is the job that is written there
+pub record IsAccepted (bytes : List ℕ) (appraise : Bool) (job : JobView) : Type 0 where
+  pub text : Written
+  pub written : IsWritten bytes appraise text
+  pub whole : IsJobOf text job
 
 -- the bytes are so
 abbrev pub IsFinding : List ℕ → Bool → Finding → Type 0

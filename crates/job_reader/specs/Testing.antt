@@ -1,18 +1,24 @@
 -- What the functions that test a whole job answer.
-use Rattle.std.specs.Prelude.{[], ◌∷◌, ◌≡◌, ◌++◌, IsTrue, ℕ, List, Option, None, Some, map, Result, Ok, Err, slice_get, length, ◌<◌}
-use Rattle.phrase_tree.specs.Term.{Term, term}
+use Rattle.std.specs.Prelude.{[], ◌∷◌, ◌≡◌, ◌++◌, IsTrue, ℕ, List, None, Some, map, Result, Ok, Err, slice_get, length, ◌<◌}
+use Rattle.phrase_tree.specs.Term.{term}
 use Rattle.phrase_tree.specs.Numbering.{IsSized}
 use Rattle.session_model.specs.Session.{Session}
 use Rattle.place_check.specs.declared.entry.PlaceEntry.{PlaceEntry}
 use Rattle.place_check.specs.Session.{CheckedSession, session_of}
 use Rattle.place_check.specs.Places.{is_place}
 use Rattle.job_reader.specs.declared.refusal.JobError.{JobError}
-use Rattle.job_reader.specs.declared.refusal.JobError.TheVariants.{NoMemory, BadPhrase}
+use Rattle.job_reader.specs.declared.refusal.JobError.TheVariants.{NoMemory, BadPhrase, RepeatedNonce}
+use Rattle.std.specs.Prelude.{nat_eq, if◌then◌else◌}
+use Rattle.std.specs.Ordering.{nat_cmp}
+use Rattle.std.specs.declared.cmp.Ordering.{Ordering}
+use Rattle.std.specs.Cmp.Lexicographic.{pointwise, slice_cmp}
+use Rattle.std.specs.BTreeMap as index
+use Rattle.std.specs.BTreeMap.{BTreeMap}
 use Rattle.job_reader.specs.declared.phrases.ReadSession.{ReadSession}
 use Rattle.phrase_reader.specs.declared.refusal.Kind.{Kind}
 use Rattle.phrase_reader.specs.Refusal.{IsRefusal}
 use Rattle.job_reader.specs.Form.{WrittenSession}
-use Rattle.job_reader.specs.Whole.{FindsNothing, artefact_repeats, IsRefused, IsSessionOf, Hindrance, hindrance, hindrance_error, IsRunnable, AreRunnable}
+use Rattle.job_reader.specs.Whole.{nonce_index, nonce_repeats, FindsNothing, artefact_repeats, IsRefused, IsSessionOf, Hindrance, hindrance, hindrance_error, IsRunnable, AreRunnable}
 use Rattle.std.specs.Prelude.{Vec}
 use Rattle.std.specs.declared.alloc.Global.{Global}
 use Rattle.bench_trait.specs.declared.artefacts.Artefact.{Artefact}
@@ -109,3 +115,20 @@ abbrev pub ChecksAll : List PlaceEntry → List Session → Result (Vec CheckedS
 ChecksAll places sessions (Ok checked) = AreKept places sessions checked.items
 ChecksAll places sessions (Err error) =
     ¬ (error ≡ NoMemory) → (index : ℕ) × (what : Hindrance) × (error ≡ hindrance_error index what) × IsFirstHindered places sessions index what
+
+-- the order of nonces, each as a text
+abbrev pub nonce_cmp : List ℕ → List ℕ → Ordering
+nonce_cmp = slice_cmp nat_cmp
+
+-- a nonce is put into an index under a number, exactly where the index has it not; else the error names
+-- both numbers
+abbrev pub AddsNonce : BTreeMap (List ℕ) ℕ → BTreeMap (List ℕ) ℕ → List ℕ → ℕ → Result Unit JobError → Type 0
+AddsNonce old new bytes second (Ok done) =
+    (index.get nonce_cmp old bytes ≡ None) × ((other : List ℕ) → index.get nonce_cmp new other ≡ (if pointwise nat_eq bytes other then Some second else index.get nonce_cmp old other))
+AddsNonce old new bytes second (Err error) =
+    ¬ (error ≡ NoMemory) → (first : ℕ) × (error ≡ RepeatedNonce first second) × (index.get nonce_cmp old bytes ≡ Some first)
+
+-- an index has the nonces of these sessions, no two of which are the same
+pub record IsNonceIndex (sessions : List WrittenSession) (nonces : BTreeMap (List ℕ) ℕ) : Type 0 where
+  pub indexed : (bytes : List ℕ) → index.get nonce_cmp nonces bytes ≡ nonce_index sessions bytes
+  pub distinct : (at : ℕ) → nonce_repeats sessions at ≡ None

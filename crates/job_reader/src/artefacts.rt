@@ -1,4 +1,4 @@
-ghost use Rattle.std.specs.Prelude.{◌≡◌, ◌≤◌, length};
+ghost use Rattle.std.specs.Prelude.{◌≡◌, ◌≤◌, length, IfOk};
 ghost use Rattle.serde_json.specs.View.{items_view, view};
 ghost use Rattle.job_reader.specs.Form.{artefact_in, each};
 ghost use Rattle.job_reader.specs.Reading.{Reads};
@@ -32,7 +32,8 @@ fn artefact_in(alloc: Global, index: u32, tree: &Value) -> Result<Artefact, Form
 /// The artefacts of a job.
 pub(crate) fn artefacts_in(alloc: Global, items: &[Value]) -> Result<Vec<Artefact>, FormError>
     requires { length items.now ≤ 4096 }
-    ensures { Reads (λ list. list.items) result (each artefact_in 0 (items_view items.now)) }
+    ensures read { Reads (λ list. list.items) result (each artefact_in 0 (items_view items.now)) }
+    ensures all { IfOk result (λ list. length list.items ≡ length items.now) }
 {
     let mut artefacts = Vec::new(alloc);
     for (index, item) in items.iter().enumerate() {

@@ -6,11 +6,7 @@ use crate::refusal::JobError;
 use place_check::{Checked, PlaceFault, Places, check};
 use std::alloc::Global;
 
-fn check_session(
-    places: &Places,
-    index: u32,
-    session: ReadSession,
-) -> Result<Checked, JobError>
+fn check_session(places: &Places, index: u32, session: ReadSession) -> Result<Checked, JobError>
     requires { IsReady places.now (read_session session) }
     ensures { ChecksSession places.now index (read_session session) result }
 {

@@ -1,4 +1,4 @@
-ghost use Rattle.std.specs.Prelude.{◌≡◌, ◌≤◌, length};
+ghost use Rattle.std.specs.Prelude.{◌≡◌, ◌≤◌, length, IfOk};
 ghost use Rattle.serde_json.specs.View.{items_view, view};
 ghost use Rattle.seal_hmac.specs.Keys.{IsKey};
 ghost use Rattle.job_reader.specs.Form.{each, name_in, names_in, place_in};
@@ -90,7 +90,8 @@ fn place_in(alloc: Global, index: u32, tree: &Value) -> Result<PlaceEntry, FormE
 /// The places of a job.
 pub(crate) fn places_in(alloc: Global, items: &[Value]) -> Result<Vec<PlaceEntry>, FormError>
     requires { length items.now ≤ 64 }
-    ensures { Reads (λ list. list.items) result (each place_in 0 (items_view items.now)) }
+    ensures read { Reads (λ list. list.items) result (each place_in 0 (items_view items.now)) }
+    ensures all { IfOk result (λ list. length list.items ≡ length items.now) }
 {
     let mut places = Vec::new(alloc);
     for (index, item) in items.iter().enumerate() {

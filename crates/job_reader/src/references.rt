@@ -1,4 +1,4 @@
-ghost use Rattle.std.specs.Prelude.{◌≡◌, ◌≤◌, length};
+ghost use Rattle.std.specs.Prelude.{◌≡◌, ◌≤◌, length, IfOk};
 ghost use Rattle.serde_json.specs.View.{items_view, view};
 ghost use Rattle.evidence_types.specs.Answer.{FitsAnswer};
 ghost use Rattle.job_reader.specs.Form.{arg_in, args_in, ask_kind, each, reference_in};
@@ -89,7 +89,8 @@ fn reference_in(alloc: Global, index: u32, tree: &Value) -> Result<Reference, Fo
 /// The references of a job.
 pub(crate) fn references_in(alloc: Global, items: &[Value]) -> Result<Vec<Reference>, FormError>
     requires { length items.now ≤ 4096 }
-    ensures { Reads (λ list. list.items) result (each reference_in 0 (items_view items.now)) }
+    ensures read { Reads (λ list. list.items) result (each reference_in 0 (items_view items.now)) }
+    ensures all { IfOk result (λ list. length list.items ≡ length items.now) }
 {
     let mut references = Vec::new(alloc);
     for (index, item) in items.iter().enumerate() {

@@ -2,7 +2,7 @@ ghost use Rattle.std.specs.Prelude.{◌≡◌, ◌≤◌, length, IfOk};
 ghost use Rattle.serde_json.specs.View.{view};
 ghost use Rattle.job_reader.specs.Form.{artefact_in, list_in, optional_list_in, place_in, reference_in, session_in, written_in};
 ghost use Rattle.job_reader.specs.Reading.{Reads};
-ghost use Rattle.job_reader.specs.Texts.{written, written_sessions};
+ghost use Rattle.job_reader.specs.Texts.{IsFew, written, written_sessions};
 
 use crate::accepted::BundleIn;
 use crate::artefacts::artefacts_in;
@@ -39,14 +39,16 @@ const JOB_FIELDS: [Field; 5] = [
 ];
 
 fn place_list(alloc: Global, tree: &Value) -> Result<Vec<PlaceEntry>, FormError>
-    ensures { Reads (λ list. list.items) result (list_in place_in Field.Places 64 (view tree.now)) }
+    ensures read { Reads (λ list. list.items) result (list_in place_in Field.Places 64 (view tree.now)) }
+    ensures few { IfOk result (λ list. length list.items ≤ 64) }
 {
     let at = top_field(Field::Places);
     places_in(alloc, located(at, list_at(tree, Field::Places, 1, 64))?)
 }
 
 fn artefact_list(alloc: Global, tree: &Value) -> Result<Vec<Artefact>, FormError>
-    ensures { Reads (λ list. list.items) result (optional_list_in artefact_in Field.Artefacts 4096 (view tree.now)) }
+    ensures read { Reads (λ list. list.items) result (optional_list_in artefact_in Field.Artefacts 4096 (view tree.now)) }
+    ensures few { IfOk result (λ list. length list.items ≤ 4096) }
 {
     let at = top_field(Field::Artefacts);
     artefacts_in(
@@ -65,7 +67,8 @@ fn session_list(alloc: Global, tree: &Value) -> Result<Vec<SessionText<'_>>, For
 }
 
 fn reference_list(alloc: Global, tree: &Value) -> Result<Vec<Reference>, FormError>
-    ensures { Reads (λ list. list.items) result (optional_list_in reference_in Field.References 4096 (view tree.now)) }
+    ensures read { Reads (λ list. list.items) result (optional_list_in reference_in Field.References 4096 (view tree.now)) }
+    ensures few { IfOk result (λ list. length list.items ≤ 4096) }
 {
     let at = top_field(Field::References);
     references_in(
@@ -82,7 +85,8 @@ pub(crate) fn written_in(
     appraise: bool,
     tree: &Value,
 ) -> Result<JobText<'_>, FormError>
-    ensures { Reads written result (written_in appraise (view tree.now)) }
+    ensures read { Reads written result (written_in appraise (view tree.now)) }
+    ensures few { IfOk result IsFew }
 {
     let here = whole(Section::Top, 0);
     is_object(here, tree)?;

@@ -1,5 +1,5 @@
 -- The artefacts go into the book one by one.
-use Rattle.std.proofs.Common.{◌≡◌, ◌∷◌, ◌++◌, [], length, ap, ◌∙◌, sym, append_assoc, arith}
+use Rattle.std.proofs.Common.{◌≡◌, ◌∷◌, ◌++◌, [], length, ap, ◌∙◌, append_assoc, arith}
 use Rattle.std.specs.Vec.Iter.{into_iter_items}
 use Rattle.job_reader.proofs.RepeatLemmas.{book_more, book_repeats}
 use Rattle.job_reader.proofs.books.book_of.Goals as goal
@@ -25,6 +25,6 @@ returns-in-Err-Repeated c =
     let x = c.in-Some.artefact in
     let steps : into_iter_items at.artefact-iterator ≡ x ∷ into_iter_items c.next.new.self = c.in-Some.ensures.steps.0 in
     let joined : at.yielded ++ x ∷ into_iter_items c.next.new.self ≡ c.args.artefacts.items =
-      rw (← steps) at.invariant.passed.joined ∙ c.into_iter-artefact-iterator.ensures.into_iter_gives.0 in
+    rw (← steps) at.invariant.passed.joined ∙ c.into_iter-artefact-iterator.ensures.into_iter_gives.0 in
     let known = rw c.in-Err-Repeated.field-0-is at c.in-Err-Repeated.ensures in
     λ other. book_repeats at.yielded at.book at.second c.in-Err-Repeated.first x _ _ at.invariant.book known.0 joined

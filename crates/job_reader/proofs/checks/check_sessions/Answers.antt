@@ -13,7 +13,7 @@ check_session-requires c =
     let x = c.in-Some.session in
     let steps : into_iter_items at.session-iterator ≡ x ∷ into_iter_items c.next.new.self = c.in-Some.ensures.steps.0 in
     let joined : at.yielded ++ x ∷ into_iter_items c.next.new.self ≡ c.args.sessions.items =
-      rw (← steps) at.invariant.passed.joined ∙ c.into_iter-session-iterator.ensures.into_iter_gives.0 in
+    rw (← steps) at.invariant.passed.joined ∙ c.into_iter-session-iterator.ensures.into_iter_gives.0 in
     ready_part c.args.places.now at.yielded x _ (subst (λ (list : List ReadSession). AreReady c.args.places.now (read_sessions list)) (sym joined) c.requires.ready)
 
 pub returns-in-Err : goal.returns-in-Err
@@ -22,7 +22,7 @@ returns-in-Err c =
     let x = c.in-Some.session in
     let steps : into_iter_items at.session-iterator ≡ x ∷ into_iter_items c.next.new.self = c.in-Some.ensures.steps.0 in
     let joined : at.yielded ++ x ∷ into_iter_items c.next.new.self ≡ c.args.sessions.items =
-      rw (← steps) at.invariant.passed.joined ∙ c.into_iter-session-iterator.ensures.into_iter_gives.0 in
+    rw (← steps) at.invariant.passed.joined ∙ c.into_iter-session-iterator.ensures.into_iter_gives.0 in
     λ other. let (what, named, hindered) = c.in-Err.ensures other in
     (at.index, what, named, first_hindered c.args.places.now at.yielded x _ _ at.index what at.list.items at.invariant.kept joined at.invariant.numbered hindered)
 

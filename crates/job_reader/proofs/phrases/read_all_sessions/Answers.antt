@@ -1,6 +1,6 @@
 -- Each session that was read adds to those so far; the first other one is the least.
 use Rattle.std.proofs.Common.{◌≡◌, length, arith}
-use Rattle.job_reader.specs.Texts.{written_session, written_sessions}
+use Rattle.job_reader.specs.Texts.{written_sessions}
 use Rattle.job_reader.specs.Testing.{read_sessions}
 use Rattle.job_reader.proofs.LeastLemmas.{length_written}
 use Rattle.job_reader.proofs.PhraseLemmas.{all_read, bad_phrase_found, no_bad_phrase, sessions_more}

@@ -1,5 +1,5 @@
 -- Each root that is a place adds to those so far; the first other one is the least.
-use Rattle.std.proofs.Common.{◌≡◌, ◌∙◌, sym, length, arith}
+use Rattle.std.proofs.Common.{◌∙◌, sym, arith}
 use Rattle.job_reader.specs.Texts.{written_session, written_sessions}
 use Rattle.job_reader.specs.Testing.{AreRooted, IsRooted}
 use Rattle.job_reader.proofs.LeastLemmas.{bad_root_found, before_more, length_written, no_bad_root, written_at}

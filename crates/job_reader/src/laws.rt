@@ -1,0 +1,15 @@
+ghost use Rattle.std.specs.Prelude.{◌≡◌, ℕ, Some, slice_get};
+ghost use Rattle.session_model.specs.Session.{Session};
+ghost use Rattle.job_reader.specs.Accepted.{AskApart};
+ghost use Rattle.job_reader.specs.Finding.{Finding, IsAccepted, IsFinding, JobView};
+
+/// A law: the bytes of a job have one finding, with or without an appraisal. It does nothing.
+pub fn one_finding(_bytes: &[u8], _appraise: bool)
+    ensures { (one other : Finding) → IsFinding _bytes.now _appraise one → IsFinding _bytes.now _appraise other → one ≡ other }
+{}
+
+/// A law: two sessions of an accepted job have different nonces, so that no question of the one is a
+/// question of the other. It does nothing.
+pub fn sessions_ask_apart(_bytes: &[u8], _appraise: bool)
+    ensures { (job : JobView) (one two : ℕ) (session other : Session) → IsAccepted _bytes.now _appraise job → slice_get job.sessions one ≡ Some session → slice_get job.sessions two ≡ Some other → ¬ (one ≡ two) → ¬ (session.nonce ≡ other.nonce) × AskApart session other }
+{}
