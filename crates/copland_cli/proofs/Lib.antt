@@ -1,8 +1,6 @@
 pub mod WordLemmas
 pub mod PortLemmas
-pub mod FindingLemmas
-pub mod FoundLemmas
 pub mod OutcomeLemmas
-pub mod PlainLemmas
-pub mod RecordLemmas
+pub mod WeightLemmas
+pub mod ReportedLemmas
 pub mod AnswerLemmas

@@ -90,7 +90,7 @@ one_command words one other h k =
     sym (at_tag one) ∙ ap (λ t. command_at t (number_of one)) tag ∙ ap (λ n. command_at (tag_of other) n) number ∙ at_tag other
 
 pub built-bad : (words : List (List ℕ)) (command : Command) → Spells words command → IsBuilt command → IsBadWords words → ⊥
-built-bad words command spelled built bad = let attest = (bad command spelled).1 in let e = sym built ∙ attest in cc
+built-bad words command spelled built bad = let attest = bad command spelled in subst IsBuilt attest.1 built
 
 pub built-unbuilt : (words : List (List ℕ)) (command other : Command) → Spells words command → IsBuilt command → Spells words other → IsUnbuilt other → ⊥
 built-unbuilt words command other spelled built again unbuilt =

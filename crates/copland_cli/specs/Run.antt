@@ -2,9 +2,10 @@
 use Rattle.std.specs.Prelude.{◌≡◌, ◌<◌, ◌≤◌, ℕ, List, length, Option}
 use Rattle.byte_ports.specs.Port.{Gave, IsAtEnd, Rose}
 use Rattle.copland_cli.specs.declared.words.Command.{Command}
-use Rattle.copland_cli.specs.declared.words.Command.TheVariants.{Walk, Attest}
+use Rattle.copland_cli.specs.declared.words.Command.TheVariants.{Check, Shape, Events, Code, Eval, Walk, Attest}
 use Rattle.copland_cli.specs.Words.{Spells}
-use Rattle.copland_cli.specs.Finding.{Finding, IsFinding}
+use Rattle.job_reader.specs.Finding.{Finding}
+use Rattle.copland_cli.specs.Finding.{IsFinding}
 
 -- a port before a run and after it: the bytes that it had left or had taken, where it tells them, and
 -- its count of faults
@@ -16,7 +17,13 @@ pub record Port : Type 0 where
 
 -- the commands that are built
 abbrev pub IsBuilt : Command → Type 0
-IsBuilt command = command ≡ Walk 0
+IsBuilt Check = Unit {0}
+IsBuilt Shape = Unit {0}
+IsBuilt Events = Unit {0}
+IsBuilt Code = Unit {0}
+IsBuilt Eval = Unit {0}
+IsBuilt (Walk schedule) = schedule ≡ 0
+IsBuilt _ = ⊥
 
 -- the command needs threads
 abbrev pub IsThreaded : Command → Type 0

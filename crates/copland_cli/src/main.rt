@@ -3,12 +3,10 @@
 //! bytes that come in to the bytes that go out and the exit status.
 #![tactic(auto)]
 
-mod first_form;
-mod line;
 mod outcome;
 mod record;
-mod refusal;
 mod report;
+mod session;
 mod status;
 #[cfg(test)]
 mod tests;
@@ -19,7 +17,7 @@ mod words;
 use bench_trait::DigestBench;
 use byte_ports::{StdSink, StdSource};
 use outcome::Outcome;
-use refusal::Refusal;
+use report_text::Refusal;
 pub use status::Status;
 use std::env::Env;
 use std::io::ErrorKind;

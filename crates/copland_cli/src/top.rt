@@ -1,17 +1,16 @@
-ghost use Rattle.std.specs.Prelude.{◌≡◌, ◌↔◌, ℕ, List, [], Some};
+ghost use Rattle.std.specs.Prelude.{◌≡◌, ◌↔◌, ℕ, List, Some};
 ghost use Rattle.copland_cli.specs.Answer.{ComesAt, IsAnswer, IsUndisturbed, Told};
 ghost use Rattle.copland_cli.specs.Concluded.{IsConcluded};
-ghost use Rattle.copland_cli.specs.Finding.{Finding};
+ghost use Rattle.job_reader.specs.Finding.{Finding};
 ghost use Rattle.copland_cli.specs.Run.{IsBadWords, IsBuilt, IsTooLong};
-ghost use Rattle.copland_cli.specs.Refused.{status_at};
 ghost use Rattle.copland_cli.specs.Words.{Spells, texts};
 ghost use Rattle.copland_cli.specs.declared.words.Command.{Command};
 
 use crate::outcome::{Outcome, decide};
-use crate::refusal::refusal_line;
-use crate::status::Status;
+use crate::status::{Status, status_of};
 use bench_trait::Bench;
 use byte_ports::{Sink, Source, write_all_of};
+use report_text::refusal_line;
 use std::alloc::Global;
 
 /// Carries out a command on one thread: reads the job from the source, and writes one report, or the
@@ -26,8 +25,8 @@ pub fn plain_top<S: Source, K: Sink, B: Bench>(
 ) -> Status
     // The cause of each answer, and what was written.
     ensures answer { IsAnswer
-        (λ ask answer. B.gives bench.now [] ask answer)
-        (λ ask fault. B.fails bench.now [] ask fault)
+        (λ artefacts ask answer. B.gives bench.now artefacts ask answer)
+        (λ artefacts ask fault. B.fails bench.now artefacts ask fault)
         (texts words.now)
         (record {
           bytes_before = S.left source.old;
@@ -71,7 +70,7 @@ pub fn plain_top<S: Source, K: Sink, B: Bench>(
           faults_after = K.faults sink.new;
         })
         result
-        → ComesAt (status_at finding) result }
+        → ComesAt finding result }
 
     // A source that tells its bytes gave too many of them exactly where the answer says so.
     ensures too_long { (left : List ℕ) (command : Command) → Spells (texts words.now) command
@@ -105,7 +104,11 @@ pub fn conclude<K: Sink>(sink: &mut K, outcome: &Outcome) -> Status
         Outcome::Refused(refusal) => {
             let line = refusal_line(refusal);
             let _ = write_all_of(sink, line.bytes());
-            refusal.status()
+            status_of(refusal)
+        }
+        Outcome::Unbuilt => {
+            let _ = write_all_of(sink, b"error: unbuilt\n");
+            Status::Unbuilt
         }
         Outcome::Reported(report) => match write_all_of(sink, report.text.items()) {
             Ok(()) => {

@@ -1,45 +1,40 @@
 ghost use Rattle.std.specs.Prelude.{◌≡◌, IfOk};
+ghost use Rattle.phrase_tree.specs.Term.{term};
+ghost use Rattle.place_check.specs.Session.{session_of};
+ghost use Rattle.plain_eval.specs.Keyed.{HasKeys};
 ghost use Rattle.session_model.specs.Record.{IsRisingRecord, numbers_below};
-ghost use Rattle.copland_cli.specs.FirstSession.{session};
-ghost use Rattle.copland_cli.specs.Found.{CanWalk};
 ghost use Rattle.copland_cli.specs.Recorded.{done_with, failed_at, recorded};
 
-use crate::first_form::FirstSession;
 use crate::record::{DoneRecord, FailRecord, Record};
 use bench_trait::{ArtefactBook, Bench, BenchFault};
 use evidence_codec::encode;
 use evidence_types::Answers;
 use phrase_tree::{NoMemory, Trace};
-use plain_eval::{Gathered, eval, gather_session};
+use place_check::Checked;
+use plain_eval::{Gathered, eval, gather};
 use seal_hmac::KeyRing;
 use std::alloc::Global;
 
 /// Walks one session to its end on one thread: asks its questions in the order of their events, and
-/// evaluates its phrase. It takes one walk over the phrase for each, and time in the bytes of the value.
+/// evaluates its phrase. It takes one walk over the phrase for each, and time in the bytes of the value
+/// and of what is sealed and hashed.
 pub fn walk_rising<B: Bench>(
     alloc: Global,
-    first: &FirstSession,
+    checked: &Checked,
     keys: &KeyRing,
     artefacts: &ArtefactBook,
     bench: &B,
 ) -> Result<Record, NoMemory>
-    requires { CanWalk first.now }
+    requires { HasKeys (term checked.now.phrase) checked.now.root keys.now }
     ensures { IfOk result (λ record'. IsRisingRecord
         (λ ask answer. B.gives bench.now artefacts.now ask answer)
         (λ ask fault. B.fails bench.now artefacts.now ask fault)
-        (session first.now)
+        (session_of checked.now)
         keys.now
         (recorded record')) }
 {
-    match gather_session(
-        alloc,
-        &first.phrase,
-        first.root,
-        &first.nonce,
-        artefacts,
-        bench,
-    ) {
-        Ok(Gathered::All(answers)) => done(alloc, first, keys, answers),
+    match gather(alloc, checked, artefacts, bench) {
+        Ok(Gathered::All(answers)) => done(alloc, checked, keys, answers),
         Ok(Gathered::Failed { event, fault }) => failed(alloc, event, fault),
         Err(_) => Err(NoMemory),
     }
@@ -47,23 +42,24 @@ pub fn walk_rising<B: Bench>(
 
 fn done(
     alloc: Global,
-    first: &FirstSession,
+    checked: &Checked,
     keys: &KeyRing,
     answers: Answers,
 ) -> Result<Record, NoMemory>
-    requires { CanWalk first.now }
-    ensures { IfOk result (λ record'. recorded record' ≡ done_with (session first.now) keys.now answers) }
+    requires { HasKeys (term checked.now.phrase) checked.now.root keys.now }
+    ensures { IfOk result (λ record'. recorded record' ≡ done_with (session_of checked.now) keys.now answers) }
 {
+    let phrase = checked.phrase();
     let value = eval(
         alloc,
-        &first.phrase,
-        first.root,
-        &first.nonce,
+        phrase,
+        checked.root(),
+        checked.nonce(),
         &answers,
         keys,
     )?;
     let bundle = encode(alloc, &value)?;
-    let trace = rising(alloc, first.phrase.events())?;
+    let trace = rising(alloc, phrase.events())?;
     Ok(Record::Done(DoneRecord {
         trace,
         answers,

@@ -10,3 +10,4 @@ pub mod RefusalLemmas
 pub mod FindingLemmas
 pub mod AnswerLemmas
 pub mod AskLemmas
+pub mod SmallLemmas

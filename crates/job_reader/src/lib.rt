@@ -25,6 +25,6 @@ mod whole;
 mod written;
 
 pub use accepted::{BundleIn, Job};
-pub use laws::{one_finding, sessions_ask_apart};
+pub use laws::{accepted_job_has_few_sessions, one_finding, sessions_ask_apart};
 pub use reading::job_of;
 pub use refusal::JobError;

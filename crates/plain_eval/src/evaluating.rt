@@ -148,6 +148,7 @@ fn kim(
 }
 
 /// The value of a phrase that a place runs from a number on, on the evidence before it.
+#[cycle(evaluation)]
 fn value_of(
     alloc: Global,
     from: &Materials<'_>,
@@ -203,7 +204,7 @@ fn value_of(
             })
         }
         Phrase::Then(left, right) => {
-            let made = value_of(alloc, from, left, place, first, before)?;
+            let made = chained(alloc, from, left, place, first, before)?;
             value_of(alloc, from, right, place, made.next, made.value)
         }
         Phrase::Seq(split, left, right) => {
@@ -226,6 +227,32 @@ fn value_of(
                 next: on_right.next + 1,
             })
         }
+    }
+}
+
+/// The same, in a frame of its own that is small: a chain nests as deep as it is long, while all other
+/// nesting is of brackets, of which few are open.
+#[cycle(evaluation)]
+fn chained(
+    alloc: Global,
+    from: &Materials<'_>,
+    phrase: &Phrase,
+    place: Place,
+    first: u32,
+    before: Box<Value>,
+) -> Result<Made, NoMemory>
+    requires few { first + event_count (term phrase.now) < 2 ^ 32 }
+    requires keys { HasKeys (term phrase.now) place from.now.keys.now }
+    ensures value { IfOk result (λ made. evidence made.value.value ≡ value_of (term phrase.now) place first (evidence before.value) (makings from.now)) }
+    ensures next { IfOk result (λ made. made.next ≡ first + event_count (term phrase.now)) }
+    ensures short { IfOk result (λ made. HasShortAnswers (term phrase.now) first from.now.answers.now) }
+{
+    match phrase {
+        Phrase::Then(left, right) => {
+            let made = chained(alloc, from, left, place, first, before)?;
+            value_of(alloc, from, right, place, made.next, made.value)
+        }
+        _ => value_of(alloc, from, phrase, place, first, before),
     }
 }
 

@@ -7,11 +7,11 @@ ghost use Rattle.place_check.specs.Session.{IsCheckedAgainst, session_of};
 
 use super::*;
 use crate::digesting::hash_over;
-use crate::tests::{COUNTED, answer, asp, hashed, name, paired, sealed, then};
+use crate::tests::{COUNTED, answer, asp, hashed, in_sequence, name, paired, sealed, then};
 use bench_trait::{ArtefactBook, BenchFault, DigestBench, TableBench, TableResult, TableRow};
 use byte_ports::Bytes;
 use evidence_types::{Answers, Value};
-use phrase_tree::{Name, Names, NoMemory, Phrase};
+use phrase_tree::{Name, Names, NoMemory, Phrase, Split};
 use place_check::{Checked, PlaceEntry, Places, check, checked_session_has_keys};
 use seal_hmac::Key;
 use std::alloc::Global;
@@ -111,13 +111,29 @@ fn three(rt: &impl Abort, alloc: Global) -> Result<Phrase, NoMemory>
 /// `SIG` so many times and once more, joined by ` -> `.
 fn seals(alloc: Global, more: u32) -> Result<Phrase, NoMemory>
     requires { more ≤ 1023 }
-    ensures { IfOk result (λ phrase. IsSized (term phrase)) }
+    ensures sized { IfOk result (λ phrase. IsSized (term phrase)) }
+    ensures events { IfOk result (λ phrase. event_count (term phrase) ≡ more + 1) }
+    ensures flat { IfOk result (λ phrase. depth (term phrase) ≡ 0) }
+    ensures no_branch { IfOk result (λ phrase. is_branch (term phrase) ≡ false) }
 {
     let mut phrase = Phrase::Sig;
     for count in 0..more {
         phrase = then(alloc, phrase, Phrase::Sig)?;
     }
     Ok(phrase)
+}
+
+/// `SIG` 1,020 times, and then `(CPY +<+ CPY)`.
+fn copied_seals(alloc: Global) -> Result<Phrase, NoMemory>
+    ensures { IfOk result (λ phrase. IsSized (term phrase)) }
+{
+    let all = Split {
+        left: true,
+        right: true,
+    };
+    let chain = seals(alloc, 1019)?;
+    let branch = in_sequence(alloc, all, Phrase::Cpy, Phrase::Cpy)?;
+    then(alloc, chain, branch)
 }
 
 fn entry(
@@ -285,5 +301,8 @@ fn checked_sessions_have_the_values_written_out(rt: HostRuntime) -> Result<(), F
     let of_all_seals =
         b"\x2c\x61\xbb\x53\x1e\xfe\x50\xf3\x42\x3a\x84\xeb\xb6\xe9\x67\xc6\x54\xad\xf6\xc3\xa1\xc9\x28\x4f\x8b\xdc\xc7\xf5\x00\xf1\x0c\xa2";
     expect_value(&rt, alloc, seals(alloc, 1023)?, &bench, of_all_seals)?;
+    let of_the_copies =
+        b"\xa5\xb2\x6b\x6c\xb1\xfb\x6d\xdc\x57\x09\x3b\x79\xe5\x3a\x73\xd4\x11\x79\xe1\xba\x7e\x5f\xd8\xe2\xdc\x64\x8b\xd5\x39\x05\x16\x95";
+    expect_value(&rt, alloc, copied_seals(alloc)?, &bench, of_the_copies)?;
     Ok(())
 }

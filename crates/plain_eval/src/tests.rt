@@ -45,7 +45,12 @@ pub(crate) fn sealed(rt: &impl Abort, alloc: Global) -> Result<Phrase, NoMemory>
     then(alloc, Phrase::Usm(asp(rt, "scan")), Phrase::Sig)
 }
 
-fn in_sequence(alloc: Global, split: Split, left: Phrase, right: Phrase) -> Result<Phrase, NoMemory>
+pub(crate) fn in_sequence(
+    alloc: Global,
+    split: Split,
+    left: Phrase,
+    right: Phrase,
+) -> Result<Phrase, NoMemory>
     ensures { IfOk result (λ phrase. term phrase ≡ seq split (term left) (term right)) }
 {
     Ok(Phrase::Seq(split, Box::new(alloc, left)?, Box::new(alloc, right)?))

@@ -3,8 +3,12 @@
 #![tactic(auto)]
 
 mod events;
+mod inline_line;
 mod line;
+mod refusal;
 #[cfg(test)]
 mod tests;
 
 pub use events::events_text;
+pub use inline_line::Line;
+pub use refusal::{Refusal, refusal_line};

@@ -29,13 +29,16 @@ impl Line {
         &self.bytes
     }
 
-    /// An empty line.
-    pub fn new() -> Line
-        ensures { result ≡ [] }
+    /// A line with this text, for which there is room.
+    pub fn of(text: &[u8]) -> Line
+        requires { length text.now ≤ 256 }
+        ensures { result ≡ text.now }
     {
-        Line {
+        let mut line = Line {
             bytes: ArrayVec::new(),
-        }
+        };
+        line.push(text);
+        line
     }
 
     /// Appends a piece, for which there is room.
