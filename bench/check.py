@@ -70,10 +70,11 @@ def main():
             job = os.path.join(folder, "job")
             with open(job, "w") as sink:
                 sink.write(job_of(name))
-            took, report = common.run(["check"], job, times)
+            took, worked, report = common.run(["check"], job, times)
             if report.count(b" ok events %d " % EVENTS) != SESSIONS:
                 sys.exit("%s: not every session was checked" % title)
-            print("check, %s: %d bytes in %.3f s" % (title, os.path.getsize(job), took))
+            size = os.path.getsize(job)
+            print("check, %s: %d bytes in %.3f s, processor %.3f s" % (title, size, took, worked))
             slow = slow or took >= LIMIT
     print("at least one job took %g s or more" % LIMIT if slow else "each job took less than %g s" % LIMIT)
     sys.exit(1 if slow else 0)

@@ -1,6 +1,7 @@
 """What the benchmarks share: where the program is, and how it is run and timed."""
 
 import os
+import resource
 import subprocess
 import sys
 import time
@@ -13,23 +14,31 @@ MOST_BYTES = 4_194_304
 
 
 def run(words, job, times):
-    """The least time in seconds of so many runs of the program on a job, and the report.
+    """The least time and the least processor time, in seconds, of so many runs of the program on a job,
+    and the report.
 
-    The report goes to a file, so that the program never waits for a reader. The least time is taken,
-    since what else runs on the machine can only add to it."""
+    The report goes to a file, so that the program never waits for a reader. The least is taken, since
+    what else runs on the machine can only add to it."""
     if not os.access(PROGRAM, os.X_OK):
         sys.exit("the program isn't built: run  ./cerealspit check < /dev/null  at the top first")
-    least = float("inf")
+    took, worked = [], []
     for _ in range(times):
         with open(job, "rb") as source, open(job + ".out", "wb") as sink:
-            begun = time.perf_counter()
+            begun, before = time.perf_counter(), children()
             status = subprocess.run([PROGRAM, *words], stdin=source, stdout=sink).returncode
-            least = min(least, time.perf_counter() - begun)
+            took.append(time.perf_counter() - begun)
+            worked.append(children() - before)
         with open(job + ".out", "rb") as sink:
             report = sink.read()
         if status != 0:
             sys.exit("%s: status %d, %r" % (" ".join(words), status, report[:100]))
-    return least, report
+    return min(took), min(worked), report
+
+
+def children():
+    """The processor time that ended programs took, the system's for them included."""
+    used = resource.getrusage(resource.RUSAGE_CHILDREN)
+    return used.ru_utime + used.ru_stime
 
 
 def times():

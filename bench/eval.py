@@ -4,7 +4,7 @@ evaluation is to take at most 1.3 times what hashing alone takes.
 
     python3 bench/eval.py [TIMES]
 
-Each job is run TIMES times (5 if not given), and the least time counts. Each phrase is 200 times a
+Each job is run TIMES times (5 if not given), and the least processor time counts. Each phrase is 200 times a
 measurement, three copies and a seal, so that each seal is over some 76 bytes more than the one before.
 
 What hashing alone takes is found in two ways.
@@ -66,7 +66,8 @@ def blocks_of(message):
 
 
 def evaluated(session):
-    """The bundle of a session, the blocks that are hashed for its seals, and the seconds that hmac took."""
+    """The bundle of a session, the blocks that are hashed for its seals, and the seconds of processor time that
+    hmac took."""
     answer = hashlib.sha256(b"a\0" + ARTEFACT).digest()
     nonce = nonce_of(session)
     value = b"\x01" + nonce
@@ -77,9 +78,9 @@ def evaluated(session):
         last = first + EVENTS_OF_PART - 1
         value = b"\x02" + first.to_bytes(4, "big") + len(answer).to_bytes(2, "big") + answer + value
         message = b"\x53" + bytes([len(PLACE)]) + PLACE + nonce + last.to_bytes(4, "big") + value
-        begun = time.perf_counter()
+        begun = time.process_time()
         seal = hmac.digest(KEY, message, "sha256")
-        seconds += time.perf_counter() - begun
+        seconds += time.process_time() - begun
         blocks += blocks_of(message)
         value = b"\x04" + last.to_bytes(4, "big") + seal + value
     return b"CPLB\x01" + len(value).to_bytes(4, "big") + value, blocks, seconds
@@ -95,8 +96,8 @@ def written(folder, text):
 def block_seconds(folder, times):
     """What a block of 64 bytes costs by the program's own SHA-256."""
     artefact = bytes(LARGE)
-    many, _ = common.run(["eval"], written(folder, job_of(artefact, ["USM a"] * PHRASES)), times)
-    one, _ = common.run(["eval"], written(folder, job_of(artefact, ["USM a"])), times)
+    _, many, _ = common.run(["eval"], written(folder, job_of(artefact, ["USM a"] * PHRASES)), times)
+    _, one, _ = common.run(["eval"], written(folder, job_of(artefact, ["USM a"])), times)
     return (many - one) / ((PHRASES - 1) * LARGE / BLOCK)
 
 
@@ -111,8 +112,8 @@ def main():
     phrase = " -> ".join([PART] * SEALS)
     with tempfile.TemporaryDirectory() as folder:
         job = written(folder, job_of(ARTEFACT, [phrase] * PHRASES))
-        reading, _ = common.run(["check"], job, times)
-        whole, report = common.run(["eval"], job, times)
+        _, reading, _ = common.run(["check"], job, times)
+        _, whole, report = common.run(["eval"], job, times)
         found = [line[7:] for line in report.split(b"\n") if line.startswith(b"bundle ")]
         if found != [row[0].hex().encode() for row in wanted]:
             sys.exit("the bundles aren't those computed here")
