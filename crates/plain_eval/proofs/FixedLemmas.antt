@@ -22,7 +22,7 @@ HasAnswer Gives ask = (answer : List ℕ) × Gives ask answer
 -- ---- the question of an event
 
 -- the question that is found is the first one, or stands behind it
-of_found : (P : Ask → Type 0) (test : Bool) (first ask : Ask) (found : Option Ask) → (test ≡ true → P first) → (found ≡ Some ask → P ask) → cond test (Some first) found ≡ Some ask → P ask
+pub of_found : (P : Ask → Type 0) (test : Bool) (first ask : Ask) (found : Option Ask) → (test ≡ true → P first) → (found ≡ Some ask → P ask) → cond test (Some first) found ≡ Some ask → P ask
 of_found P true first ask found here behind h = let same : first ≡ ask = cc in subst P same (here refl)
 of_found P false first ask found here behind h = behind h
 

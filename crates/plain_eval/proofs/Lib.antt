@@ -3,3 +3,4 @@ pub mod GatherLemmas
 pub mod AnswerLemmas
 pub mod BundleLemmas
 pub mod FixedLemmas
+pub mod RightLemmas

@@ -14,6 +14,7 @@ mod gather_tests;
 mod gathering;
 mod laws;
 mod nodes;
+mod right;
 #[cfg(test)]
 mod tests;
 
@@ -24,3 +25,4 @@ pub use fixed::{
 };
 pub use gathering::{Gathered, gather, gather_session};
 pub use laws::{events_have_the_keys_of_seals, value_fits_bundle};
+pub use right::rising_records_are_right;
