@@ -77,12 +77,12 @@ fn run<S: Source, B: Bench>(alloc: Global, command: Command, source: &mut S, ben
     requires { IsBuilt command }
     ensures { IsRun
         (λ job text some_failed. IsReport
-          (λ artefacts ask answer. B.gives bench.now artefacts ask answer)
-          (λ artefacts ask fault. B.fails bench.now artefacts ask fault)
-          command
-          job
-          text
-          some_failed)
+        (λ artefacts ask answer. B.gives bench.now artefacts ask answer)
+        (λ artefacts ask fault. B.fails bench.now artefacts ask fault)
+        command
+        job
+        text
+        some_failed)
         (record {
           bytes_before = S.left source.old;
           bytes_after = S.left source.new;
@@ -103,12 +103,12 @@ fn run_over<B: Bench>(alloc: Global, command: Command, bytes: &[u8], bench: &B) 
     requires { IsBuilt command }
     ensures { IsRunOf
         (λ job text some_failed. IsReport
-          (λ artefacts ask answer. B.gives bench.now artefacts ask answer)
-          (λ artefacts ask fault. B.fails bench.now artefacts ask fault)
-          command
-          job
-          text
-          some_failed)
+        (λ artefacts ask answer. B.gives bench.now artefacts ask answer)
+        (λ artefacts ask fault. B.fails bench.now artefacts ask fault)
+        command
+        job
+        text
+        some_failed)
         bytes.now
         result }
 {

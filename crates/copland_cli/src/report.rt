@@ -120,11 +120,7 @@ pub fn push_record(text: &mut Vec<u8>, number: u32, found: &Record) -> Result<()
     }
 }
 
-fn push_done_record(
-    text: &mut Vec<u8>,
-    number: u32,
-    done: &DoneRecord,
-) -> Result<(), NoMemory>
+fn push_done_record(text: &mut Vec<u8>, number: u32, done: &DoneRecord) -> Result<(), NoMemory>
     ensures { OnOk result (text.new.items ≡ text.old.items
         ++ (session_head number ++ (codes " done\n" ++ (trace_line done.now.trace ++ evidence_lines done.now.answers done.now.bundle)))) }
 {
@@ -231,9 +227,7 @@ fn push_answer_text(text: &mut Vec<u8>, answer: &[u8]) -> Result<(), NoMemory>
     ensures { OnOk result (text.new.items ≡ text.old.items ++ answer_text answer.now) }
 {
     match answer {
-        [] => {
-            push_bytes(text, b"-")
-        }
+        [] => { push_bytes(text, b"-") }
         [_, ..] => push_hex(text, answer),
     }
 }
@@ -242,9 +236,7 @@ fn push_fault(text: &mut Vec<u8>, fault: BenchFault) -> Result<(), NoMemory>
     ensures { OnOk result (text.new.items ≡ text.old.items ++ fault_text fault) }
 {
     match fault {
-        BenchFault::NoArtefact => {
-            push_bytes(text, b"no-artefact")
-        }
+        BenchFault::NoArtefact => { push_bytes(text, b"no-artefact") }
         BenchFault::Broken(code) => {
             push_bytes(text, b"broken ")?;
             push_decimal(text, u32::from(code))

@@ -21,6 +21,8 @@ mod references;
 mod refusal;
 mod roots;
 mod sessions;
+#[cfg(test)]
+mod tests;
 mod whole;
 mod written;
 

@@ -5,6 +5,8 @@
 
 mod place;
 mod reading;
+#[cfg(test)]
+mod tests;
 mod words;
 
 pub use place::{FieldAt, FieldError, FieldKind, Section};

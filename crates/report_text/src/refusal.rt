@@ -42,7 +42,11 @@ fn job_line(error: &JobError) -> Line
     match error {
         JobError::NotJson => Line::of(b"error: not json\n"),
         JobError::BadJob { at, kind } => field_line(at, *kind),
-        JobError::RepeatedPlace { first, second } => pair_line(b"error: repeated place ", *first, *second),
+        JobError::RepeatedPlace { first, second } => pair_line(
+            b"error: repeated place ",
+            *first,
+            *second,
+        ),
         JobError::RepeatedArtefact { first, second } => {
             pair_line(b"error: repeated artefact ", *first, *second)
         }
@@ -50,7 +54,11 @@ fn job_line(error: &JobError) -> Line
             pair_line(b"error: repeated reference ", *first, *second)
         }
         JobError::BadRoot { session } => root_line(*session),
-        JobError::RepeatedNonce { first, second } => pair_line(b"error: repeated nonce ", *first, *second),
+        JobError::RepeatedNonce { first, second } => pair_line(
+            b"error: repeated nonce ",
+            *first,
+            *second,
+        ),
         JobError::BadPhrase { session, at, kind } => {
             word_line(b"error: phrase ", *session, *at, refusal_word(*kind))
         }

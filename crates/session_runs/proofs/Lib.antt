@@ -18,4 +18,9 @@ pub mod ListingLaws
 pub mod ResultLaws
 pub mod OwnerLaws
 pub mod PlaceLaws
+pub mod HistoryLaws
 pub mod ScheduleLaws
+pub mod NextEvent
+pub mod RisingLaws
+pub mod RisingRecords
+pub mod LegalSchedules

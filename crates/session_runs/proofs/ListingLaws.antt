@@ -87,7 +87,7 @@ silent_put : (o : Option ℕ) (one : Ready) (ys : List Ready) (block : Block) (s
 silent_put None one ys block step event h = ranked_in one ys block step event (inr h)
 silent_put (Some n) one ys block step event h = h
 
-silent_in : (xs : List Ready) (block : Block) (step : Step) → IsReady xs block step None → IsReady (silent_ones xs) block step None
+pub silent_in : (xs : List Ready) (block : Block) (step : Step) → IsReady xs block step None → IsReady (silent_ones xs) block step None
 silent_in [] block step h = absurd h
 silent_in (x ∷ xs) block step (inl h) =
     subst (λ o. IsReady (put_silent o x (silent_ones xs)) block step None) (sym h.2) (ranked_in x (silent_ones xs) block step None (inl h))
@@ -97,7 +97,7 @@ silent_put_out : (o : Option ℕ) (one : Ready) (ys : List Ready) (block : Block
 silent_put_out None one ys block step event h = ranked_out one ys block step event h
 silent_put_out (Some n) one ys block step event h = inr h
 
-silent_out : (xs : List Ready) (block : Block) (step : Step) (event : Option ℕ) → IsReady (silent_ones xs) block step event → IsReady xs block step event
+pub silent_out : (xs : List Ready) (block : Block) (step : Step) (event : Option ℕ) → IsReady (silent_ones xs) block step event → IsReady xs block step event
 silent_out [] block step event h = absurd h
 silent_out (x ∷ xs) block step event h = elim (silent_put_out x.event x (silent_ones xs) block step event h) [
   | inl k ↦ inl k
@@ -108,7 +108,7 @@ event_put : (o : Option ℕ) (one : Ready) (ys : List Ready) (block : Block) (st
 event_put None one ys block step event h = h
 event_put (Some n) one ys block step event h = ranked_in one ys block step event (inr h)
 
-event_at : (xs : List Ready) (block : Block) (step : Step) (n : ℕ) → IsReady xs block step (Some n) → IsReady (event_ones xs) block step (Some n)
+pub event_at : (xs : List Ready) (block : Block) (step : Step) (n : ℕ) → IsReady xs block step (Some n) → IsReady (event_ones xs) block step (Some n)
 event_at [] block step n h = absurd h
 event_at (x ∷ xs) block step n (inl h) =
     subst (λ o. IsReady (put_event o x (event_ones xs)) block step (Some n)) (sym h.2) (ranked_in x (event_ones xs) block step (Some n) (inl h))
@@ -118,7 +118,7 @@ event_put_out : (o : Option ℕ) (one : Ready) (ys : List Ready) (block : Block)
 event_put_out None one ys block step event h = inr h
 event_put_out (Some n) one ys block step event h = ranked_out one ys block step event h
 
-event_out : (xs : List Ready) (block : Block) (step : Step) (event : Option ℕ) → IsReady (event_ones xs) block step event → IsReady xs block step event
+pub event_out : (xs : List Ready) (block : Block) (step : Step) (event : Option ℕ) → IsReady (event_ones xs) block step event → IsReady xs block step event
 event_out [] block step event h = absurd h
 event_out (x ∷ xs) block step event h = elim (event_put_out x.event x (event_ones xs) block step event h) [
   | inl k ↦ inl k
@@ -146,19 +146,19 @@ moves_out (x ∷ xs) move (inr h) =
     record { block = w.block; step = w.step; event = w.event; ready = inr w.ready; same_move = w.same_move }
 
 -- the deliveries
-record IsDelivery (places : List (List ℕ)) (requests : List (List ℕ × ℕ)) (move : Move) : Type 0 where
-  place : List ℕ
-  request : ℕ
-  same_move : deliver place ≡ move
-  there : IsAmong places place
-  waits : front requests place ≡ Some request
+pub record IsDelivery (places : List (List ℕ)) (requests : List (List ℕ × ℕ)) (move : Move) : Type 0 where
+  pub place : List ℕ
+  pub request : ℕ
+  pub same_move : deliver place ≡ move
+  pub there : IsAmong places place
+  pub waits : front requests place ≡ Some request
 
 delivery_cases : (Q : Type 0) (o : Option ℕ) (place : List ℕ) (rest : List Move) (move : Move) → ((n : ℕ) → o ≡ Some n → deliver place ≡ move → Q) → (IsAmong rest move → Q) → IsAmong (delivery_at o place rest) move → Q
 delivery_cases Q None place rest move f g h = g h
 delivery_cases Q (Some n) place rest move f g (inl h) = f n refl h
 delivery_cases Q (Some n) place rest move f g (inr h) = g h
 
-deliveries_out : (places : List (List ℕ)) (requests : List (List ℕ × ℕ)) (move : Move) → IsAmong (deliveries places requests) move → IsDelivery places requests move
+pub deliveries_out : (places : List (List ℕ)) (requests : List (List ℕ × ℕ)) (move : Move) → IsAmong (deliveries places requests) move → IsDelivery places requests move
 deliveries_out [] requests move h = absurd h
 deliveries_out (place ∷ places) requests move h =
     delivery_cases (IsDelivery (place ∷ places) requests move) (front requests place) place (deliveries places requests) move
@@ -173,7 +173,7 @@ delivery_more : (o : Option ℕ) (place : List ℕ) (rest : List Move) (move : M
 delivery_more None place rest move h = h
 delivery_more (Some n) place rest move h = inr h
 
-deliveries_in : (places : List (List ℕ)) (requests : List (List ℕ × ℕ)) (place : List ℕ) (n : ℕ) → IsAmong places place → front requests place ≡ Some n → IsAmong (deliveries places requests) (deliver place)
+pub deliveries_in : (places : List (List ℕ)) (requests : List (List ℕ × ℕ)) (place : List ℕ) (n : ℕ) → IsAmong places place → front requests place ≡ Some n → IsAmong (deliveries places requests) (deliver place)
 deliveries_in [] requests place n h f = absurd h
 deliveries_in (p ∷ places) requests place n (inl e) f =
     subst (λ x. IsAmong (delivery_at (front requests x) x (deliveries places requests)) (deliver place)) (sym e) (subst (λ o. IsAmong (delivery_at o place (deliveries places requests)) (deliver place)) (sym f) (inl refl))
@@ -204,7 +204,7 @@ ready_counts [] block step event h = absurd h
 ready_counts (x ∷ xs) block step event (inl h) = omega (arith, same_block_one x.block block h.0)
 ready_counts (x ∷ xs) block step event (inr h) = omega (arith, ready_counts xs block step event h)
 
-one_event : (xs : List Ready) (block : Block) (step other_step : Step) (event other : Option ℕ) → movers_in block xs ≤ 1 → IsReady xs block step event → IsReady xs block other_step other → event ≡ other
+pub one_event : (xs : List Ready) (block : Block) (step other_step : Step) (event other : Option ℕ) → movers_in block xs ≤ 1 → IsReady xs block step event → IsReady xs block other_step other → event ≡ other
 one_event [] block step other_step event other most h k = absurd h
 one_event (x ∷ xs) block step other_step event other most (inl h) (inl k) = sym h.2 ∙ k.2
 one_event (x ∷ xs) block step other_step event other most (inl h) (inr k) =
@@ -215,12 +215,12 @@ one_event (x ∷ xs) block step other_step event other most (inr h) (inr k) =
     one_event xs block step other_step event other (omega (arith, most)) h k
 
 -- a step of a block is possible, and it is ready with the event that it adds
-record Goes (session : Session) (keys : List (List ℕ × List ℕ)) (s : Standing) (pass : ℕ) (block : Block) (step : Step) : Type 0 where
-  then_stands : Standing
-  possible : next session keys s (played pass (move_by step block)) ≡ Some then_stands
-  event : Option ℕ
-  adds : Adds event step pass s then_stands
-  listed : IsReady (ready_of s.configuration) block step event
+pub record Goes (session : Session) (keys : List (List ℕ × List ℕ)) (s : Standing) (pass : ℕ) (block : Block) (step : Step) : Type 0 where
+  pub then_stands : Standing
+  pub possible : next session keys s (played pass (move_by step block)) ≡ Some then_stands
+  pub event : Option ℕ
+  pub adds : Adds event step pass s then_stands
+  pub listed : IsReady (ready_of s.configuration) block step event
 
 module _ (session : Session) (keys : List (List ℕ × List ℕ)) (s : Standing) (pass : ℕ) (still : s.state ≡ is_open) where
   comes_next : (move : Move) (t : Standing) → played_on (makings session keys) session.root pass s move ≡ Some t → next session keys s (played pass move) ≡ Some t
@@ -273,7 +273,7 @@ module _ (session : Session) (keys : List (List ℕ × List ℕ)) (s : Standing)
     listed = end_listed value is;
   }
 
-  ready_goes : (block : Block) (step : Step) (event : Option ℕ) → IsReady (ready_of s.configuration) block step event → Goes session keys s pass block step
+  pub ready_goes : (block : Block) (step : Step) (event : Option ℕ) → IsReady (ready_of s.configuration) block step event → Goes session keys s pass block step
   ready_goes block step event h =
       once_ready (Goes session keys s pass block step) s.configuration (ready_in root s.configuration) (λ value. ready_to root run_step None) block step event
       (λ going k. steps_go block step (ready_steps (makings session keys) session.root root s.configuration block step event k))

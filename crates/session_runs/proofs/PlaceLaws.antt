@@ -105,9 +105,9 @@ all_less places (request ∷ rest) n h = left_out (nat_eq request.1 n) (all_less
     left_out true k = h.1
     left_out false k = (h.0, k)
 
-record IsPlaced (places : List (List ℕ)) (s : Standing) : Type 0 where
-  still : Within places s.configuration
-  waiting : AllWithin places s.requests
+pub record IsPlaced (places : List (List ℕ)) (s : Standing) : Type 0 where
+  pub still : Within places s.configuration
+  pub waiting : AllWithin places s.requests
 
 placed_after : (places : List (List ℕ)) (pass : ℕ) (s : Standing) (effect : Effect) (d : Configuration) → IsPlaced places s → Within places d → SendsWithin places effect → IsPlaced places (after pass s effect d)
 placed_after places pass s silent d p w h = record { still = w; waiting = p.waiting }
@@ -124,12 +124,12 @@ placed_next places session s entry t p (root_ended value is then_is) = subst (λ
 placed_next places session s entry t p (faulted pass event fault flying of_entry then_is) = subst (λ x. IsPlaced places x) (sym then_is) (record { still = p.still; waiting = p.waiting })
 placed_next places session s entry t p (starves pass event flying of_entry then_is) = subst (λ x. IsPlaced places x) (sym then_is) (record { still = p.still; waiting = p.waiting })
 
-history_placed : (session : Session) (keys : List (List ℕ × List ℕ)) (places : List (List ℕ)) (history : List Entry) (s : Standing) → AsksOnly places session.phrase → standing_after session keys history ≡ Some s → IsPlaced places s
+pub history_placed : (session : Session) (keys : List (List ℕ × List ℕ)) (places : List (List ℕ)) (history : List Entry) (s : Standing) → AsksOnly places session.phrase → standing_after session keys history ≡ Some s → IsPlaced places s
 history_placed session keys places history s only e =
     kept_after session keys (IsPlaced places) (λ u entry t p f. placed_next places session u entry t p (onward (StaysWithin places) session keys (within_law (makings session keys) places) u entry t f).1) (record { still = start_within places session.phrase 0 (nonce session.nonce) only; waiting = tt }) history s e
 
 -- a place whose list has a front is among them
-front_within : (places : List (List ℕ)) (requests : List (List ℕ × ℕ)) (place : List ℕ) (n : ℕ) → AllWithin places requests → front requests place ≡ Some n → Contains places place
+pub front_within : (places : List (List ℕ)) (requests : List (List ℕ × ℕ)) (place : List ℕ) (n : ℕ) → AllWithin places requests → front requests place ≡ Some n → Contains places place
 front_within places [] place n h e = no_front n e
   where
     no_front : (n : ℕ) → ◌≡◌ {A = Option ℕ} None (Some n) → Contains places place

@@ -272,7 +272,7 @@ pointwise_same [] = refl
 pointwise_same (x ∷ xs) = and_from (nat_eq x x) (pointwise nat_eq xs xs) (eq-eqb x x refl) (pointwise_same xs)
 
 -- where a request waits, the list of some place has a front
-front_there : (requests : List (List ℕ × ℕ)) (n : ℕ) → 1 ≤ request_count requests n → (place : List ℕ) × (k : ℕ) × (front requests place ≡ Some k) × (1 ≤ request_count requests k)
+pub front_there : (requests : List (List ℕ × ℕ)) (n : ℕ) → 1 ≤ request_count requests n → (place : List ℕ) × (k : ℕ) × (front requests place ≡ Some k) × (1 ≤ request_count requests k)
 front_there [] n h = absurd (omega arith)
 front_there (request ∷ rest) n h =
     (request.0, request.1, ap (λ b. if b then Some request.1 else front rest request.0) (pointwise_same request.0), omega (arith, same_one request.1 request.1 refl))

@@ -7,8 +7,8 @@ use Rattle.bench_trait.specs.declared.bench.MeasureError.{MeasureError}
 use Rattle.bench_trait.specs.declared.bench.MeasureError.TheVariants.{Fault, NoMemory}
 use Rattle.session_model.specs.Session.{Session}
 use Rattle.session_runs.specs.Moves.{run as run_step, ask as ask_step, in_block, answer, delivery, Effect, silent, happens, sends, asks, answers, starts, Moved, own_moves, inner_moves}
-use Rattle.session_runs.specs.Standing.{root, of, Move, run, ask, deliver, Entry, opened, played, answered, failed, starved, State, is_open, is_done, has_failed, has_starved, Standing, opening, makings, front, without_ask, is_in_flight, after, made, delivered, played_on, entered, next}
-use Rattle.session_runs.specs.History.{further, standing_after}
+use Rattle.session_runs.specs.Standing.{root, of, Move, run, ask, deliver, Entry, opened, played, answered, failed, starved, State, is_open, is_done, has_failed, has_starved, Standing, makings, front, without_ask, is_in_flight, after, made, delivered, played_on, entered, next}
+use Rattle.session_runs.specs.History.{standing_after}
 use Rattle.session_runs.specs.MoveOrder.{possible_moves, asks_ranked, asks_in_order}
 use Rattle.session_runs.specs.Progress.{CanCome, IsAwaited}
 use Rattle.session_runs.specs.Schedule.{stirred, drawn_of, draw, Walked, just_opened, all_opened, result_entry, results_first, candidates, is_running, open_count, one_starves, with_entry, nth_entry, with_choice, chosen, Round, ahead, moved_on, one_round, rounds, entries_at_most, first_from, scheduled}
@@ -16,35 +16,17 @@ use Rattle.session_runs.specs.Played.{AsksOnly, AskOnly, IsWalked, AreWalked, Is
 use Rattle.session_runs.proofs.Induction.{Made}
 use Rattle.session_runs.proofs.EntryLaws.{some_is, made_is, no_standing, once_finished_any, where_open_is, if_standing}
 use Rattle.session_runs.proofs.CountLaws.{history_short}
+use Rattle.session_runs.proofs.HistoryLaws.{after_more}
 use Rattle.session_runs.proofs.ListingLaws.{IsAmong, contains_among, history_lists}
 use Rattle.session_runs.proofs.ResultLaws.{history_awaits}
 use Rattle.session_runs.proofs.PlaceLaws.{history_lists_one}
-
--- one entry more
-further_none : (session : Session) (keys : List (List ℕ × List ℕ)) (x : Option Standing) → further session keys x [] ≡ x
-further_none session keys None = refl
-further_none session keys (Some s) = refl
-
-further_more : (session : Session) (keys : List (List ℕ × List ℕ)) (x : Option Standing) (entries : List Entry) (s : Standing) (entry : Entry) (t : Standing) → further session keys x entries ≡ Some s → next session keys s entry ≡ Some t → further session keys x (entries ++ entry ∷ []) ≡ Some t
-further_more session keys None entries s entry t e n = no_standing (further session keys None (entries ++ entry ∷ []) ≡ Some t) s e
-further_more session keys (Some u) [] s entry t e n =
-    ap (λ v. further session keys (next session keys v entry) []) (some_is Standing u s e) ∙ further_none session keys (next session keys s entry) ∙ n
-further_more session keys (Some u) (one ∷ entries) s entry t e n = further_more session keys (next session keys u one) entries s entry t e n
-
-standing_more : (session : Session) (keys : List (List ℕ × List ℕ)) (history : List Entry) (s : Standing) (entry : Entry) (t : Standing) → standing_after session keys history ≡ Some s → next session keys s entry ≡ Some t → standing_after session keys (history ++ entry ∷ []) ≡ Some t
-standing_more session keys [] s entry t e n = no_standing (standing_after session keys (entry ∷ []) ≡ Some t) s e
-standing_more session keys (opened ∷ entries) s entry t e n = further_more session keys (Some (opening session)) entries s entry t e n
-standing_more session keys (played pass move ∷ entries) s entry t e n = no_standing (standing_after session keys (played pass move ∷ (entries ++ entry ∷ [])) ≡ Some t) s e
-standing_more session keys (answered pass event bytes ∷ entries) s entry t e n = no_standing (standing_after session keys (answered pass event bytes ∷ (entries ++ entry ∷ [])) ≡ Some t) s e
-standing_more session keys (failed pass event fault ∷ entries) s entry t e n = no_standing (standing_after session keys (failed pass event fault ∷ (entries ++ entry ∷ [])) ≡ Some t) s e
-standing_more session keys (starved pass event ∷ entries) s entry t e n = no_standing (standing_after session keys (starved pass event ∷ (entries ++ entry ∷ [])) ≡ Some t) s e
 
 walked_more : (results : ℕ → Result (List ℕ) MeasureError) (entries : List Entry) (entry : Entry) → AreWalked results entries → IsWalked results entry → AreWalked results (entries ++ entry ∷ [])
 walked_more results [] entry h w = (w, tt)
 walked_more results (one ∷ entries) entry h w = (h.0, walked_more results entries entry h.1 w)
 
 -- all asks in flight are of the pass 0
-abbrev OfZero : List (ℕ × ℕ) → Type 0
+abbrev pub OfZero : List (ℕ × ℕ) → Type 0
 OfZero [] = Unit {0}
 OfZero (one ∷ rest) = (one.1 ≡ 0) × OfZero rest
 
@@ -199,9 +181,9 @@ drawn_below count from some = below (nat_eq count 1) from
     below false (Some x) = mod_below (stirred x / 65536) count (omega (arith, some))
 
 -- a session that is played so far, with all its asks of the pass 0
-record IsFine (keys : List (List ℕ × List ℕ)) (results : ℕ → Result (List ℕ) MeasureError) (session : Session) (walked : Walked) : Type 0 where
-  plays : IsPlayed keys results session walked
-  zeros : OfZero walked.standing.in_flight
+pub record IsFine (keys : List (List ℕ × List ℕ)) (results : ℕ → Result (List ℕ) MeasureError) (session : Session) (walked : Walked) : Type 0 where
+  pub plays : IsPlayed keys results session walked
+  pub zeros : OfZero walked.standing.in_flight
 
 fine_opened : (keys : List (List ℕ × List ℕ)) (results : ℕ → Result (List ℕ) MeasureError) (session : Session) → IsFine keys results session (just_opened session)
 fine_opened keys results session = record { plays = record { same = refl; stands = refl; entries = (tt, tt) }; zeros = tt }
@@ -220,7 +202,7 @@ module _ (keys : List (List ℕ × List ℕ)) (results : ℕ → Result (List �
         fine = record {
           plays = record {
             same = fine.plays.same;
-            stands = standing_more session keys walked.history walked.standing entry t fine.plays.stands possible;
+            stands = after_more session keys walked.history walked.standing entry fine.plays.stands ∙ possible;
             entries = walked_more results walked.history entry fine.plays.entries comes.walks;
           };
           zeros = zero_next session keys results walked.standing entry t fine.zeros comes.walks possible;
@@ -239,14 +221,14 @@ module _ (keys : List (List ℕ × List ℕ)) (results : ℕ → Result (List �
       subst (λ o. Goes keys results session walked (with_choice keys walked o)) (sym w.there) (goes_with w.entry (candidate_comes session keys places results walked.history walked.standing w.entry fine.plays.stands still fine.zeros w.among))
 
 -- all sessions of a job, each so
-abbrev AreFine : List (List ℕ × List ℕ) → (ℕ → ℕ → Result (List ℕ) MeasureError) → ℕ → List Session → List Walked → Type 0
+abbrev pub AreFine : List (List ℕ × List ℕ) → (ℕ → ℕ → Result (List ℕ) MeasureError) → ℕ → List Session → List Walked → Type 0
 AreFine keys results number [] [] = Unit {0}
 AreFine keys results number [] (walked ∷ all) = ⊥
 AreFine keys results number (session ∷ sessions) [] = ⊥
 AreFine keys results number (session ∷ sessions) (walked ∷ all) =
     IsFine keys (results number) session walked × AreFine keys results (number + 1) sessions all
 
-fine_all : (keys : List (List ℕ × List ℕ)) (results : ℕ → ℕ → Result (List ℕ) MeasureError) (number : ℕ) (sessions : List Session) → AreFine keys results number sessions (all_opened sessions)
+pub fine_all : (keys : List (List ℕ × List ℕ)) (results : ℕ → ℕ → Result (List ℕ) MeasureError) (number : ℕ) (sessions : List Session) → AreFine keys results number sessions (all_opened sessions)
 fine_all keys results number [] = tt
 fine_all keys results number (session ∷ sessions) = (fine_opened keys (results number) session, fine_all keys results (number + 1) sessions)
 
@@ -257,7 +239,7 @@ fine_played keys results number (session ∷ sessions) [] f = f
 fine_played keys results number (session ∷ sessions) (walked ∷ all) f = (f.0.plays, fine_played keys results (number + 1) sessions all f.1)
 
 -- the entries of all histories
-abbrev total : List Walked → ℕ
+abbrev pub total : List Walked → ℕ
 total [] = 0
 total (walked ∷ all) = length walked.history + total all
 
@@ -277,19 +259,19 @@ none_open keys results number [] [] f e = refl
 none_open keys results number [] (walked ∷ all) f e = absurd f
 none_open keys results number (session ∷ sessions) all f e = absurd (omega (arith, e))
 
-running_open : (state : State) → is_running state ≡ true → state ≡ is_open
+pub running_open : (state : State) → is_running state ≡ true → state ≡ is_open
 running_open is_open e = refl
 running_open (is_done value) e = absurd (cc)
 running_open (has_failed event fault) e = absurd (cc)
 running_open (has_starved event) e = absurd (cc)
 
-clash : (b : Bool) → b ≡ true → b ≡ false → ⊥
+pub clash : (b : Bool) → b ≡ true → b ≡ false → ⊥
 clash b e f = cc
 
 -- one session moves: the others stay, and one entry is added where one is open at the index
-record MovesOne (keys : List (List ℕ × List ℕ)) (results : ℕ → ℕ → Result (List ℕ) MeasureError) (number : ℕ) (sessions : List Session) (all : List Walked) (k : ℕ) (after_it : List Walked) : Type 0 where
-  fine : AreFine keys results number sessions after_it
-  grown : k < open_count all → total after_it ≡ total all + 1
+pub record MovesOne (keys : List (List ℕ × List ℕ)) (results : ℕ → ℕ → Result (List ℕ) MeasureError) (number : ℕ) (sessions : List Session) (all : List Walked) (k : ℕ) (after_it : List Walked) : Type 0 where
+  pub fine : AreFine keys results number sessions after_it
+  pub grown : k < open_count all → total after_it ≡ total all + 1
 
 module _ (places : List (List ℕ)) (keys : List (List ℕ × List ℕ)) (results : ℕ → ℕ → Result (List ℕ) MeasureError) where
   passed_over : (number : ℕ) (session : Session) (sessions : List Session) (walked : Walked) (rest : List Walked) (k j : ℕ) (from : Option ℕ) → IsFine keys (results number) session walked → (k < open_count (walked ∷ rest) → j < open_count rest) → MovesOne keys results (number + 1) sessions rest j (moved_on places keys results (number + 1) rest j from).all → MovesOne keys results number (session ∷ sessions) (walked ∷ rest) k (ahead walked (moved_on places keys results (number + 1) rest j from)).all
@@ -298,7 +280,7 @@ module _ (places : List (List ℕ)) (keys : List (List ℕ × List ℕ)) (result
     grown = λ lt. omega (arith, m.grown (less lt));
   }
 
-  moves_one : (number : ℕ) (sessions : List Session) (all : List Walked) (k : ℕ) (from : Option ℕ) → AskOnly places sessions → AreFine keys results number sessions all → MovesOne keys results number sessions all k (moved_on places keys results number all k from).all
+  pub moves_one : (number : ℕ) (sessions : List Session) (all : List Walked) (k : ℕ) (from : Option ℕ) → AskOnly places sessions → AreFine keys results number sessions all → MovesOne keys results number sessions all k (moved_on places keys results number all k from).all
   moves_one number [] [] k from only fine = record { fine = tt; grown = λ lt. absurd (omega (arith, lt)) }
   moves_one number [] (walked ∷ rest) k from only fine = absurd fine
   moves_one number (session ∷ sessions) [] k from only fine = absurd fine

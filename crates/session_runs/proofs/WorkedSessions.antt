@@ -3,11 +3,15 @@ use Rattle.std.proofs.Common.{◌≡◌, ℕ, zero, suc, List, [], ◌∷◌, �
 use Rattle.std.specs.Prelude.{codes, true, false, Option, None, Some}
 use Rattle.phrase_tree.specs.declared.measurement.Asp.{Asp}
 use Rattle.phrase_tree.specs.declared.phrase.Split.{Split}
-use Rattle.phrase_tree.specs.Term.{Term, cpy, usm, at, seq, par}
+use Rattle.phrase_tree.specs.Term.{Term, cpy, sig, hsh, usm, kim, at, chain, seq, par}
 use Rattle.bench_trait.specs.declared.bench.BenchFault.TheVariants.{NoArtefact, Broken}
+use Rattle.evidence_types.specs.Bytes.{encoding}
+use Rattle.evidence_types.specs.Evidence.{nonce, kim as measured_at, seal, hash, par_pair}
+use Rattle.seal_hmac.specs.Keys.{key_at}
+use Rattle.seal_hmac.specs.Seal.{seal_of, hash_of}
 use Rattle.session_model.specs.Session.{Session}
 use Rattle.session_model.specs.Record.{Record, done, failed as failed_record}
-use Rattle.session_runs.specs.Standing.{Block, root, of, Move, run, ask, deliver, Entry, opened, played, answered, failed, starved, is_open, is_done, has_failed, has_starved, Standing, opening, next}
+use Rattle.session_runs.specs.Standing.{Block, root, of, Move, run, ask, deliver, Entry, opened, played, answered, failed, starved, State, is_open, is_done, has_failed, has_starved, Standing, opening, next}
 use Rattle.session_runs.specs.History.{standing_after, record_of}
 use Rattle.session_runs.specs.MoveOrder.{possible_moves, asks_in_order}
 use Rattle.session_runs.specs.Owner.{owner}
@@ -141,3 +145,25 @@ owners (n ∷ rest) = owner three.phrase root 0 n ∷ owners rest
 
 owners_of_three : owners (0 ∷ 1 ∷ 2 ∷ 3 ∷ 4 ∷ 5 ∷ 6 ∷ 7 ∷ []) ≡ Some root ∷ Some root ∷ Some root ∷ Some (of 1) ∷ Some root ∷ Some (of 0) ∷ Some root ∷ None ∷ []
 owners_of_three = refl
+
+-- what a request runs is sealed at the place that is asked, with that place's key
+measured_and_sealed : Session
+measured_and_sealed = session_of (at q (chain (kim bank (plain (codes "a"))) sig))
+
+abbrev two_keys : List (List ℕ × List ℕ)
+two_keys = (bank, 1 ∷ []) ∷ (q, 2 ∷ []) ∷ []
+
+abbrev state_after : Option Standing → Option State
+state_after None = None
+state_after (Some standing) = Some standing.state
+
+sealed_there : state_after (standing_after measured_and_sealed two_keys (opened ∷ played 0 (run root) ∷ played 0 (deliver q) ∷ played 0 (ask (of 0)) ∷ answered 0 1 (17 ∷ []) ∷ played 0 (run (of 0)) ∷ played 0 (run (of 0)) ∷ played 0 (run root) ∷ played 0 (run root) ∷ [])) ≡ Some (is_done (seal 2 (seal_of (key_at two_keys q) q first_nonce 2 (encoding (measured_at 1 (17 ∷ []) (nonce first_nonce)))) (measured_at 1 (17 ∷ []) (nonce first_nonce))))
+unfolding measured_and_sealed
+sealed_there = refl
+
+-- so is what its right arm seals in a block of its own
+sealed_beside : state_after (standing_after (session_of (at q (par to_both cpy sig))) two_keys (opened ∷ played 0 (run root) ∷ played 0 (deliver q) ∷ played 0 (run (of 0)) ∷ played 0 (run (of 1)) ∷ played 0 (run (of 1)) ∷ played 0 (run (of 0)) ∷ played 0 (run (of 0)) ∷ played 0 (run (of 0)) ∷ played 0 (run root) ∷ played 0 (run root) ∷ [])) ≡ Some (is_done (par_pair (nonce first_nonce) (seal 3 (seal_of (key_at two_keys q) q first_nonce 3 (encoding (nonce first_nonce))) (nonce first_nonce))))
+sealed_beside = refl
+
+hashed : state_after (standing_after (session_of hsh) [] (opened ∷ played 0 (run root) ∷ played 0 (run root) ∷ [])) ≡ Some (is_done (hash 0 (hash_of (encoding (nonce first_nonce)))))
+hashed = refl

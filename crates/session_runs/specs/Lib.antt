@@ -4,6 +4,7 @@ pub mod Standing
 pub mod History
 pub mod Owner
 pub mod Progress
+pub mod Rising
 pub mod MoveOrder
 pub mod Schedule
 pub mod Played

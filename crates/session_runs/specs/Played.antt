@@ -1,11 +1,13 @@
 -- What it means that sessions are played to their end (this project's own).
 use Rattle.std.specs.Prelude.{◌≡◌, ◌+◌, ◌⊎◌, ℕ, true, List, [], ◌∷◌, Some, Result, Ok, Err, Contains}
 use Rattle.phrase_tree.specs.Term.{Term, at, chain, seq, par}
+use Rattle.bench_trait.specs.declared.ask.Ask.{Ask}
+use Rattle.bench_trait.specs.declared.bench.BenchFault.{BenchFault}
 use Rattle.bench_trait.specs.declared.bench.MeasureError.{MeasureError}
 use Rattle.bench_trait.specs.declared.bench.MeasureError.TheVariants.{Fault, NoMemory}
-use Rattle.session_model.specs.Session.{Session}
+use Rattle.session_model.specs.Session.{Session, session_questions}
 use Rattle.session_runs.specs.Standing.{Entry, opened, played, answered, failed, starved}
-use Rattle.session_runs.specs.History.{standing_after}
+use Rattle.session_runs.specs.History.{standing_after, IsLegal}
 use Rattle.session_runs.specs.Schedule.{Walked, open_count, one_starves}
 
 -- the places that a phrase asks are among these
@@ -50,3 +52,28 @@ ArePlayed keys results number (session ∷ sessions) (walked ∷ all) =
 -- none is open, or one is starved
 abbrev pub AreOver : List Walked → Type 0
 AreOver all = (open_count all ≡ 0) ⊎ (one_starves all ≡ true)
+
+-- a result of a measurement is one of the bench for its question
+abbrev pub IsMeasured : (Ask → List ℕ → Type 0) → (Ask → BenchFault → Type 0) → (Ask → Type 0) → Ask → Result (List ℕ) MeasureError → Type 0
+IsMeasured Gives Fails Starves ask (Ok bytes) = Gives ask bytes
+IsMeasured Gives Fails Starves ask (Err (Fault fault)) = Fails ask fault
+IsMeasured Gives Fails Starves ask (Err NoMemory) = Starves ask
+
+-- each result of a session is one of the bench, and each of the sessions of a job; `number` is that of the first
+abbrev pub AreMeasured : (Ask → List ℕ → Type 0) → (Ask → BenchFault → Type 0) → (Ask → Type 0) → (ℕ → Result (List ℕ) MeasureError) → List Ask → Type 0
+AreMeasured Gives Fails Starves results [] = Unit {0}
+AreMeasured Gives Fails Starves results (ask ∷ asks) =
+    IsMeasured Gives Fails Starves ask (results ask.event) × AreMeasured Gives Fails Starves results asks
+
+abbrev pub AllMeasured : (Ask → List ℕ → Type 0) → (Ask → BenchFault → Type 0) → (Ask → Type 0) → (ℕ → ℕ → Result (List ℕ) MeasureError) → ℕ → List Session → Type 0
+AllMeasured Gives Fails Starves results number [] = Unit {0}
+AllMeasured Gives Fails Starves results number (session ∷ sessions) =
+    AreMeasured Gives Fails Starves (results number) (session_questions session) × AllMeasured Gives Fails Starves results (number + 1) sessions
+
+-- each of these sessions has a legal history
+abbrev pub AreLegal : (Ask → List ℕ → Type 0) → (Ask → BenchFault → Type 0) → (Ask → Type 0) → List (List ℕ × List ℕ) → List Session → List Walked → Type 0
+AreLegal Gives Fails Starves keys [] [] = Unit {0}
+AreLegal Gives Fails Starves keys [] (walked ∷ all) = ⊥
+AreLegal Gives Fails Starves keys (session ∷ sessions) [] = ⊥
+AreLegal Gives Fails Starves keys (session ∷ sessions) (walked ∷ all) =
+    IsLegal Gives Fails Starves session keys walked.history walked.standing × AreLegal Gives Fails Starves keys sessions all

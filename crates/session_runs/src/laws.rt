@@ -1,16 +1,17 @@
-ghost use Rattle.std.specs.Prelude.{◌≡◌, ◌+◌, ◌*◌, ◌≤◌, ◌↔◌, ◌⊎◌, ℕ, true, List, Some, Result, length, Contains};
+ghost use Rattle.std.specs.Prelude.{◌≡◌, ◌+◌, ◌*◌, ◌≤◌, ◌↔◌, ◌⊎◌, ℕ, true, List, [], ◌∷◌, ◌++◌, Some, Result, length, Contains};
 ghost use Rattle.phrase_tree.specs.Numbering.{event_count};
 ghost use Rattle.bench_trait.specs.declared.bench.MeasureError.{MeasureError};
 ghost use Rattle.event_system.specs.Trace.{IsTraceSoFar};
-ghost use Rattle.session_model.specs.Session.{Session};
-ghost use Rattle.session_model.specs.Record.{Record};
+ghost use Rattle.session_model.specs.Session.{Session, session_questions};
+ghost use Rattle.session_model.specs.Record.{Record, IsRisingRecord};
 ghost use Rattle.session_model.specs.RightRecord.{IsRightRecord};
 ghost use Rattle.session_runs.specs.Owner.{owner};
-ghost use Rattle.session_runs.specs.Standing.{Block, root, Move, Entry, is_open, is_in_flight, Standing};
-ghost use Rattle.session_runs.specs.History.{standing_after, IsLegal, record_of};
+ghost use Rattle.session_runs.specs.Standing.{Block, root, Move, Entry, is_open, is_in_flight, Standing, next};
+ghost use Rattle.session_runs.specs.History.{standing_after, IsResult, IsLegal, record_of};
 ghost use Rattle.session_runs.specs.MoveOrder.{Ready, ready_of, possible_moves};
 ghost use Rattle.session_runs.specs.Schedule.{scheduled};
-ghost use Rattle.session_runs.specs.Played.{AsksOnly, AskOnly, ArePlayed, AreOver};
+ghost use Rattle.session_runs.specs.Played.{AsksOnly, AskOnly, ArePlayed, AreOver, AllMeasured, AreLegal};
+ghost use Rattle.session_runs.specs.Rising.{IsRising, AreRising};
 ghost use Rattle.session_runs.specs.Progress.{CanMake, IsNotStuck, IsAtOneOf, IsTrulyReady, IsAwaited, movers_in};
 
 use bench_trait::{ArtefactBook, Bench};
@@ -94,6 +95,63 @@ pub fn schedule_law()
         × AreOver (scheduled places keys results sessions number) }
 {}
 
+/// The law of legal schedules: where the results given are those of a bench, the sessions as a schedule
+/// plays them have legal histories.
+pub fn legal_schedule_law<B: Bench>(bench: &B, artefacts: &ArtefactBook)
+    ensures { (places : List (List ℕ)) (keys : List (List ℕ × List ℕ)) (results : ℕ → ℕ → Result (List ℕ) MeasureError) (sessions : List Session) (number : ℕ) →
+        AskOnly places sessions →
+        AllMeasured
+        (λ ask answer. B.gives bench.now artefacts.now ask answer)
+        (λ ask fault. B.fails bench.now artefacts.now ask fault)
+        (λ ask. B.starves bench.now artefacts.now ask)
+        results
+        0
+        sessions →
+        AreLegal
+        (λ ask answer. B.gives bench.now artefacts.now ask answer)
+        (λ ask fault. B.fails bench.now artefacts.now ask fault)
+        (λ ask. B.starves bench.now artefacts.now ask)
+        keys
+        sessions
+        (scheduled places keys results sessions number) }
+{}
+
+/// The law of rising schedules: as the number 0 plays the sessions of a job, the events of each happen in
+/// the order of their numbers, and one that fails is the next.
+pub fn rising_law()
+    ensures { (places : List (List ℕ)) (keys : List (List ℕ × List ℕ)) (results : ℕ → ℕ → Result (List ℕ) MeasureError) (sessions : List Session) →
+        AskOnly places sessions → AreRising (scheduled places keys results sessions 0) }
+{}
+
+/// The law of growth: a legal history with one entry more is legal just where the entry can come next
+/// and, if it is a result, is one of the bench for its question. So a history is legal entry by entry.
+pub fn growth_law<B: Bench>(bench: &B, artefacts: &ArtefactBook)
+    ensures { (session : Session) (keys : List (List ℕ × List ℕ)) (history : List Entry) (standing : Standing) (entry : Entry) (then_stands : Standing) →
+        IsLegal
+        (λ ask answer. B.gives bench.now artefacts.now ask answer)
+        (λ ask fault. B.fails bench.now artefacts.now ask fault)
+        (λ ask. B.starves bench.now artefacts.now ask)
+        session
+        keys
+        history
+        standing →
+        IsLegal
+        (λ ask answer. B.gives bench.now artefacts.now ask answer)
+        (λ ask fault. B.fails bench.now artefacts.now ask fault)
+        (λ ask. B.starves bench.now artefacts.now ask)
+        session
+        keys
+        (history ++ entry ∷ [])
+        then_stands
+        ↔ ((next session keys standing entry ≡ Some then_stands)
+        × IsResult
+        (λ ask answer. B.gives bench.now artefacts.now ask answer)
+        (λ ask fault. B.fails bench.now artefacts.now ask fault)
+        (λ ask. B.starves bench.now artefacts.now ask)
+        (session_questions session)
+        entry) }
+{}
+
 /// The law of records: the record of a legal history that is done or failed is right, whatever the bench.
 pub fn record_law<B: Bench>(bench: &B, artefacts: &ArtefactBook)
     ensures { (session : Session) (keys : List (List ℕ × List ℕ)) (history : List Entry) (standing : Standing) (found : Record) →
@@ -107,6 +165,28 @@ pub fn record_law<B: Bench>(bench: &B, artefacts: &ArtefactBook)
         standing →
         record_of session standing standing.state ≡ Some found →
         IsRightRecord
+        (λ ask answer. B.gives bench.now artefacts.now ask answer)
+        (λ ask fault. B.fails bench.now artefacts.now ask fault)
+        session
+        keys
+        found }
+{}
+
+/// The law of rising records: where the events of a legal history happened in the order of their numbers,
+/// its record is right in that order.
+pub fn rising_record_law<B: Bench>(bench: &B, artefacts: &ArtefactBook)
+    ensures { (session : Session) (keys : List (List ℕ × List ℕ)) (history : List Entry) (standing : Standing) (found : Record) →
+        IsLegal
+        (λ ask answer. B.gives bench.now artefacts.now ask answer)
+        (λ ask fault. B.fails bench.now artefacts.now ask fault)
+        (λ ask. B.starves bench.now artefacts.now ask)
+        session
+        keys
+        history
+        standing →
+        IsRising standing →
+        record_of session standing standing.state ≡ Some found →
+        IsRisingRecord
         (λ ask answer. B.gives bench.now artefacts.now ask answer)
         (λ ask fault. B.fails bench.now artefacts.now ask fault)
         session

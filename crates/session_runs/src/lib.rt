@@ -9,7 +9,7 @@ mod tests;
 mod wrong;
 
 pub use laws::{
-    choice_law, length_law, listing_law, owner_law, progress_law, record_law, result_law,
-    schedule_law, trace_law,
+    choice_law, growth_law, legal_schedule_law, length_law, listing_law, owner_law, progress_law,
+    record_law, result_law, rising_law, rising_record_law, schedule_law, trace_law,
 };
 pub use wrong::wrong_histories;

@@ -20,9 +20,11 @@ loop-checked-preserved g c =
     let same = c.as_slice-checked-items.ensures.value in
     let index = c.loop-checked.checked-index in
     let item = c.checked-item.result in
-    let said = c.in_ok-did_fail.ensures in
-    (ap (λ n. n + 1) c.loop-checked.invariant.0, loop-goes-on (Says (λ ask answer. g.B.Bench.gives c.args.bench.now c.args.job.now.artefacts ask answer) (λ ask fault. g.B.Bench.fails c.args.bench.now c.args.job.now.artefacts ask fault) (keys_of c.args.job.now.places) c.args.command) session_of c.args.job.now.sessions.items index c.loop-checked.number item c.loop-checked.text.items c.push_session.new.text.items said.0 c.loop-checked.some_failed c.in_ok-did_fail.did_fail
-    (omega (arith, c.loop-checked-test.true, ap (λ (xs : List CheckedSession). length xs) same)) (c.checked-item.is ∙ ap (λ (xs : List CheckedSession). get_or xs index item) same) c.loop-checked.invariant.1 said.1 said.2)
+    let said = c.in_ok-did_fail.ensures in (
+      ap (λ n. n + 1) c.loop-checked.invariant.0,
+      loop-goes-on (Says (λ ask answer. g.B.Bench.gives c.args.bench.now c.args.job.now.artefacts ask answer) (λ ask fault. g.B.Bench.fails c.args.bench.now c.args.job.now.artefacts ask fault) (keys_of c.args.job.now.places) c.args.command) session_of c.args.job.now.sessions.items index c.loop-checked.number item c.loop-checked.text.items c.push_session.new.text.items said.0 c.loop-checked.some_failed c.in_ok-did_fail.did_fail
+          (omega (arith, c.loop-checked-test.true, ap (λ (xs : List CheckedSession). length xs) same)) (c.checked-item.is ∙ ap (λ (xs : List CheckedSession). get_or xs index item) same) c.loop-checked.invariant.1 said.1 said.2,
+    )
 
 pub returns : goal.returns
 returns g c =
