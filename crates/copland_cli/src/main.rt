@@ -3,6 +3,8 @@
 //! bytes that come in to the bytes that go out and the exit status.
 #![tactic(auto)]
 
+#[cfg(test)]
+mod job_tests;
 mod outcome;
 mod record;
 mod report;

@@ -24,14 +24,14 @@ const COPIED: &str =
 
 /// Ports of a run: the greatest size of a call, and the calls that fail.
 #[derive(Drop)]
-struct Ports<'a> {
+pub struct Ports<'a> {
     source_most: usize,
     source_failing: &'a [u64],
     sink_most: usize,
     sink_failing: &'a [u64],
 }
 
-const WHOLE: Ports<'static> = Ports {
+pub const WHOLE: Ports<'static> = Ports {
     source_most: 65536,
     source_failing: &NO_CALLS,
     sink_most: 65536,
@@ -39,7 +39,7 @@ const WHOLE: Ports<'static> = Ports {
 };
 
 /// Runs the program on the input, and checks its status and what it wrote.
-fn expect_run(
+pub fn expect_run(
     rt: &impl std::process::Abort,
     alloc: Global,
     words: &str,
@@ -312,7 +312,7 @@ const SAME_NONCES: &str =
     "{\"places\":[{\"name\":\"bank\",\"key\":\"000102030405060708090a0b0c0d0e0f\"}],\"sessions\":[{\"root\":\"bank\",\"nonce\":\"000102030405060708090a0b0c0d0e0f\",\"phrase\":\"CPY\"},{\"root\":\"bank\",\"nonce\":\"000102030405060708090A0B0C0D0E0F\",\"phrase\":\"CPY\"}]}";
 
 const SAME_PLACES: &str =
-    "{\"places\":[{\"name\":\"q\",\"key\":\"000102030405060708090a0b0c0d0e0f\"},{\"name\":\"q\",\"key\":\"000102030405060708090a0b0c0d0e0f\"}],\"sessions\":[{\"root\":\"bank\",\"nonce\":\"00\",\"phrase\":\"CPY\"}]}";
+    "{\"places\":[{\"name\":\"q\",\"key\":\"000102030405060708090a0b0c0d0e0f\"},{\"name\":\"q\",\"key\":\"000102030405060708090a0b0c0d0e0f\"}],\"sessions\":[{\"root\":\"bank\",\"nonce\":\"000102030405060708090a0b0c0d0e0f\",\"phrase\":\"CPY\"}]}";
 
 // A chain of the most events, whose evidence nests deepest.
 #[test]

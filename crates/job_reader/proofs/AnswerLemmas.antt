@@ -1,5 +1,5 @@
 -- What `job_of` answers is the finding of the bytes.
-use Rattle.std.proofs.Common.{◌≡◌, ◌↔◌, ℕ, zero, suc, Bool, List, [], ◌∷◌, map, sym, ap, subst, Some, Result, Ok, Err, slice_get, inl, inr, IfOk}
+use Rattle.std.proofs.Common.{refl, ◌≡◌, ◌↔◌, ℕ, zero, suc, Bool, List, [], ◌∷◌, map, sym, ap, subst, Some, Result, Ok, Err, slice_get, inl, inr, IfOk}
 use Rattle.serde_json.specs.Data.{Data}
 use Rattle.phrase_tree.specs.Term.{term}
 use Rattle.place_check.specs.declared.entry.PlaceEntry.{PlaceEntry}
@@ -78,3 +78,18 @@ exactly bytes appraise one finding is = (
 pub answer_exact : (bytes : List ℕ) (appraise : Bool) (tree : Data) (answer : Result Job JobError) → IsTreeOf bytes tree → AnswersTree appraise tree answer → (finding : Finding) → UnlessNoMemory answer ((finding_of answer ≡ finding) ↔ IsFinding bytes appraise finding)
 answer_exact bytes appraise tree answer of_bytes answers finding =
     unless answer ((finding_of answer ≡ finding) ↔ IsFinding bytes appraise finding) (λ other. exactly bytes appraise (finding_of answer) finding (tree_finding bytes appraise tree answer of_bytes answers other))
+
+-- what holds of every answer but want of memory holds of this one, which is not that
+pub not_memory : (answer : Result Job JobError) (fact : Type 0) → UnlessNoMemory answer fact → ¬ (answer ≡ Err NoMemory) → fact
+not_memory (Ok job) fact holds other = holds
+not_memory (Err NoMemory) fact holds other = absurd (other refl)
+not_memory (Err NotJson) fact holds other = holds
+not_memory (Err (BadJob at kind)) fact holds other = holds
+not_memory (Err (RepeatedPlace first second)) fact holds other = holds
+not_memory (Err (RepeatedArtefact first second)) fact holds other = holds
+not_memory (Err (RepeatedReference first second)) fact holds other = holds
+not_memory (Err (BadRoot session)) fact holds other = holds
+not_memory (Err (RepeatedNonce first second)) fact holds other = holds
+not_memory (Err (BadPhrase session place kind)) fact holds other = holds
+not_memory (Err (Misplaced session event kind)) fact holds other = holds
+not_memory (Err (Oversize session event)) fact holds other = holds

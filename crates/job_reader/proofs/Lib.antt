@@ -11,3 +11,4 @@ pub mod FindingLemmas
 pub mod AnswerLemmas
 pub mod AskLemmas
 pub mod SmallLemmas
+mod WorkedForm

@@ -11,13 +11,13 @@ fn name(rt: &impl Abort, text: &str) -> Name {
     Name::read(text).expect(rt, "a name")
 }
 
-const PLACE: &str = "{\"name\":\"bank\",\"key\":\"000102030405060708090a0b0c0d0e0f\"}";
+const PLACE: &str = r#"{"name":"bank","key":"000102030405060708090a0b0c0d0e0f"}"#;
 
 const SESSION: &str =
-    "{\"root\":\"bank\",\"nonce\":\"000102030405060708090a0b0c0d0e0f\",\"phrase\":\"CPY\"}";
+    r#"{"root":"bank","nonce":"000102030405060708090a0b0c0d0e0f","phrase":"CPY"}"#;
 
 const TWO_PLACES: &str =
-    "{\"places\":[{\"name\":\"bank\",\"key\":\"000102030405060708090a0b0c0d0e0f\",\"asks\":[\"q\"],\"sees\":[\"q\"],\"offers\":[\"scan\",\"a\",\"b\"]},{\"name\":\"q\",\"key\":\"101112131415161718191a1b1c1d1e1f\",\"offers\":[\"scan\"]}]";
+    r#"{"places":[{"name":"bank","key":"000102030405060708090a0b0c0d0e0f","asks":["q"],"sees":["q"],"offers":["scan","a","b"]},{"name":"q","key":"101112131415161718191a1b1c1d1e1f","offers":["scan"]}]"#;
 
 fn joined(alloc: Global, parts: &[&str]) -> Result<String, AllocError> {
     let mut text = String::new(alloc);
@@ -33,9 +33,9 @@ fn job_with(alloc: Global, phrase: &str) -> Result<String, AllocError> {
         alloc,
         &[
             TWO_PLACES,
-            ",\"sessions\":[{\"root\":\"bank\",\"nonce\":\"000102030405060708090a0b0c0d0e0f\",\"phrase\":\"",
+            r#","sessions":[{"root":"bank","nonce":"000102030405060708090a0b0c0d0e0f","phrase":""#,
             phrase,
-            "\"}]}",
+            r#""}]}"#,
         ],
     )
 }
@@ -167,589 +167,327 @@ fn job_of_parts(alloc: Global, parts: &[&str; 5]) -> Result<String, AllocError> 
     joined(
         alloc,
         &[
-            "{\"bundle\":",
+            r#"{"bundle":"#,
             parts[4],
-            ",\"references\":[",
+            r#","references":["#,
             parts[3],
-            "],\"sessions\":[",
+            r#"],"sessions":["#,
             parts[2],
-            "],\"artefacts\":[",
+            r#"],"artefacts":["#,
             parts[1],
-            "],\"places\":[",
+            r#"],"places":["#,
             parts[0],
             "]}",
         ],
     )
 }
 
-const BUNDLE: &str = "{\"session\":0,\"bytes\":\"\"}";
+const BUNDLE: &str = r#"{"session":0,"bytes":""}"#;
 
-/// Where a fault stands in a part of the job, and what it is.
-type Row<'a> = (&'a str, Option<Field>, Option<u32>, FieldKind);
+/// A fault of form as it is written in a refusal; any other error as nothing.
+fn fault_text(alloc: Global, error: JobError) -> Result<String, Fail> {
+    let JobError::BadJob { at, kind } = error else {
+        return Ok(String::new(alloc));
+    };
+    let section = at.section.word();
+    let index = at.index;
+    let mut text = match at.section {
+        Section::Top => format!(in alloc; "$")?,
+        Section::Bundle => format!(in alloc; "$.bundle")?,
+        Section::Places | Section::Artefacts | Section::Sessions | Section::References => {
+            format!(in alloc; "$.{section}[{index}]")?
+        }
+    };
+    if let Some(field) = at.field {
+        text.push_str(".")?;
+        text.push_str(field.word())?;
+    }
+    if let Some(item) = at.item {
+        text.push_str(format!(in alloc; "[{item}]")?.as_str())?;
+    }
+    text.push_str(" ")?;
+    text.push_str(kind.word())?;
+    Ok(text)
+}
 
-/// In a job whose one part is of each of these texts in turn, the fault of each is to be found.
+/// In a job whose one part is of each of these texts in turn, the fault is to be the one beside it.
 fn expect_faults(
     rt: &impl Abort,
     alloc: Global,
-    section: Section,
     part: usize,
-    rows: &[Row<'_>],
+    path: &str,
+    rows: &[(&str, &str)],
 ) -> Result<(), Fail> {
-    for (text, field, item, kind) in rows {
+    for (text, fault) in rows {
         let mut parts = [PLACE, "", SESSION, "", BUNDLE];
         if part < 5 {
             parts[part] = text;
         }
         let job = job_of_parts(alloc, &parts)?;
-        let at = FieldAt {
-            section,
-            index: 0,
-            field: *field,
-            item: *item,
-        };
-        let expected = Some(JobError::BadJob { at, kind: *kind });
-        assert_eq!(rt; refusal(alloc, job.as_str(), false), expected, "{text}");
+        let error = refusal(alloc, job.as_str(), false).ok_or("refused")?;
+        let found = fault_text(alloc, error)?;
+        let expected = joined(alloc, &[path, fault])?;
+        assert_eq!(rt; found.as_str(), expected.as_str(), "{text}");
     }
     Ok(())
 }
 
 #[test]
 fn the_faults_of_a_place_are_found(rt: HostRuntime) -> Result<(), Fail> {
-    let rows: [Row<'_>; 21] = [
-        ("7", None, None, FieldKind::WrongKind),
-        ("null", None, None, FieldKind::WrongKind),
-        ("{}", Some(Field::Name), None, FieldKind::Missing),
+    let rows = [
+        (r#"7"#, " wrong-kind"),
+        (r#"null"#, " wrong-kind"),
+        (r#"{}"#, ".name missing"),
+        (r#"{"name":1}"#, ".name wrong-kind"),
+        (r#"{"name":null}"#, ".name wrong-kind"),
+        (r#"{"name":"Bank"}"#, ".name bad-name"),
         (
-            "{\"name\":1}",
-            Some(Field::Name),
-            None,
-            FieldKind::WrongKind,
+            r#"{"name":"a12345678901234567890123456789012"}"#,
+            ".name bad-name",
+        ),
+        (r#"{"name":"a"}"#, ".key missing"),
+        (r#"{"name":"a","key":[]}"#, ".key wrong-kind"),
+        (r#"{"name":"a","key":"0g"}"#, ".key bad-hex"),
+        (r#"{"name":"a","key":"000"}"#, ".key bad-hex"),
+        (r#"{"name":"a","key":"00"}"#, ".key out-of-range"),
+        (
+            r#"{"name":"a","key":"000102030405060708090a0b0c0d0e","asks":7}"#,
+            ".key out-of-range",
         ),
         (
-            "{\"name\":null}",
-            Some(Field::Name),
-            None,
-            FieldKind::WrongKind,
+            r#"{"name":"a","key":"000102030405060708090a0b0c0d0e0f","asks":7}"#,
+            ".asks wrong-kind",
         ),
         (
-            "{\"name\":\"Bank\"}",
-            Some(Field::Name),
-            None,
-            FieldKind::BadName,
+            r#"{"name":"a","key":"000102030405060708090a0b0c0d0e0f","asks":null}"#,
+            ".asks wrong-kind",
         ),
         (
-            "{\"name\":\"a123456789012345678901234567890bc\"}",
-            Some(Field::Name),
-            None,
-            FieldKind::BadName,
+            r#"{"name":"a","key":"000102030405060708090a0b0c0d0e0f","asks":["b",2]}"#,
+            ".asks[1] wrong-kind",
         ),
         (
-            "{\"name\":\"a\"}",
-            Some(Field::Key),
-            None,
-            FieldKind::Missing,
+            r#"{"name":"a","key":"000102030405060708090a0b0c0d0e0f","asks":["b",""]}"#,
+            ".asks[1] bad-name",
         ),
         (
-            "{\"name\":\"a\",\"key\":[]}",
-            Some(Field::Key),
-            None,
-            FieldKind::WrongKind,
+            r#"{"name":"a","key":"000102030405060708090a0b0c0d0e0f","sees":{},"asks":[]}"#,
+            ".sees wrong-kind",
         ),
         (
-            "{\"name\":\"a\",\"key\":\"0g\"}",
-            Some(Field::Key),
-            None,
-            FieldKind::BadHex,
+            r#"{"name":"a","key":"000102030405060708090a0b0c0d0e0f","sees":["-"]}"#,
+            ".sees[0] bad-name",
         ),
         (
-            "{\"name\":\"a\",\"key\":\"000\"}",
-            Some(Field::Key),
-            None,
-            FieldKind::BadHex,
+            r#"{"name":"a","key":"000102030405060708090a0b0c0d0e0f","offers":[{}]}"#,
+            ".offers[0] wrong-kind",
         ),
         (
-            "{\"name\":\"a\",\"key\":\"00\"}",
-            Some(Field::Key),
-            None,
-            FieldKind::OutOfRange,
-        ),
-        (
-            "{\"name\":\"a\",\"key\":\"000102030405060708090a0b0c0d0e\",\"asks\":7}",
-            Some(Field::Key),
-            None,
-            FieldKind::OutOfRange,
-        ),
-        (
-            "{\"name\":\"a\",\"key\":\"000102030405060708090a0b0c0d0e0f\",\"asks\":7}",
-            Some(Field::Asks),
-            None,
-            FieldKind::WrongKind,
-        ),
-        (
-            "{\"name\":\"a\",\"key\":\"000102030405060708090a0b0c0d0e0f\",\"asks\":null}",
-            Some(Field::Asks),
-            None,
-            FieldKind::WrongKind,
-        ),
-        (
-            "{\"name\":\"a\",\"key\":\"000102030405060708090a0b0c0d0e0f\",\"asks\":[\"b\",2]}",
-            Some(Field::Asks),
-            Some(1),
-            FieldKind::WrongKind,
-        ),
-        (
-            "{\"name\":\"a\",\"key\":\"000102030405060708090a0b0c0d0e0f\",\"asks\":[\"b\",\"\"]}",
-            Some(Field::Asks),
-            Some(1),
-            FieldKind::BadName,
-        ),
-        (
-            "{\"name\":\"a\",\"key\":\"000102030405060708090a0b0c0d0e0f\",\"sees\":{},\"asks\":[]}",
-            Some(Field::Sees),
-            None,
-            FieldKind::WrongKind,
-        ),
-        (
-            "{\"name\":\"a\",\"key\":\"000102030405060708090a0b0c0d0e0f\",\"sees\":[\"-\"]}",
-            Some(Field::Sees),
-            Some(0),
-            FieldKind::BadName,
-        ),
-        (
-            "{\"name\":\"a\",\"key\":\"000102030405060708090a0b0c0d0e0f\",\"offers\":[{}]}",
-            Some(Field::Offers),
-            Some(0),
-            FieldKind::WrongKind,
-        ),
-        (
-            "{\"name\":\"a\",\"key\":\"000102030405060708090A0B0C0D0E0F\",\"extra\":1}",
-            None,
-            None,
-            FieldKind::Unknown,
+            r#"{"name":"a","key":"000102030405060708090A0B0C0D0E0F","extra":1}"#,
+            " unknown",
         ),
     ];
-    expect_faults(&rt, rt.alloc(), Section::Places, 0, &rows)
+    expect_faults(&rt, rt.alloc(), 0, "$.places[0]", &rows)
 }
 
 #[test]
-fn the_faults_of_an_artefact_are_found(rt: HostRuntime) -> Result<(), Fail> {
-    let rows: [Row<'_>; 11] = [
-        ("[]", None, None, FieldKind::WrongKind),
+fn the_faults_of_an_artefact_or_a_session_are_found(rt: HostRuntime) -> Result<(), Fail> {
+    let artefacts = [
+        (r#"[]"#, " wrong-kind"),
+        (r#"{"name":"a","bytes":""}"#, ".place missing"),
+        (r#"{"place":7}"#, ".place wrong-kind"),
+        (r#"{"place":"7"}"#, ".place bad-name"),
+        (r#"{"place":"a"}"#, ".name missing"),
+        (r#"{"place":"a","name":{}}"#, ".name wrong-kind"),
+        (r#"{"place":"a","name":""}"#, ".name bad-name"),
+        (r#"{"place":"a","name":"b"}"#, ".bytes missing"),
+        (r#"{"place":"a","name":"b","bytes":0}"#, ".bytes wrong-kind"),
         (
-            "{\"name\":\"a\",\"bytes\":\"\"}",
-            Some(Field::Place),
-            None,
-            FieldKind::Missing,
+            r#"{"place":"a","name":"b","bytes":"0","x":0}"#,
+            ".bytes bad-hex",
+        ),
+        (r#"{"place":"a","name":"b","bytes":"","":0}"#, " unknown"),
+    ];
+    expect_faults(&rt, rt.alloc(), 1, "$.artefacts[0]", &artefacts)?;
+    let sessions = [
+        (r#""CPY""#, " wrong-kind"),
+        (r#"{"nonce":""}"#, ".root missing"),
+        (r#"{"root":[]}"#, ".root wrong-kind"),
+        (r#"{"root":"a-b"}"#, ".root bad-name"),
+        (r#"{"root":"a","phrase":7}"#, ".nonce missing"),
+        (r#"{"root":"a","nonce":16}"#, ".nonce wrong-kind"),
+        (r#"{"root":"a","nonce":"xx"}"#, ".nonce bad-hex"),
+        (
+            r#"{"root":"a","nonce":"000102030405060708090a0b0c0d0e0f10"}"#,
+            ".nonce out-of-range",
         ),
         (
-            "{\"place\":7}",
-            Some(Field::Place),
-            None,
-            FieldKind::WrongKind,
+            r#"{"root":"a","nonce":"000102030405060708090a0b0c0d0e0f"}"#,
+            ".phrase missing",
         ),
         (
-            "{\"place\":\"7\"}",
-            Some(Field::Place),
-            None,
-            FieldKind::BadName,
+            r#"{"root":"a","nonce":"000102030405060708090a0b0c0d0e0f","phrase":null}"#,
+            ".phrase wrong-kind",
         ),
         (
-            "{\"place\":\"a\"}",
-            Some(Field::Name),
-            None,
-            FieldKind::Missing,
-        ),
-        (
-            "{\"place\":\"a\",\"name\":{}}",
-            Some(Field::Name),
-            None,
-            FieldKind::WrongKind,
-        ),
-        (
-            "{\"place\":\"a\",\"name\":\"\"}",
-            Some(Field::Name),
-            None,
-            FieldKind::BadName,
-        ),
-        (
-            "{\"place\":\"a\",\"name\":\"b\"}",
-            Some(Field::Bytes),
-            None,
-            FieldKind::Missing,
-        ),
-        (
-            "{\"place\":\"a\",\"name\":\"b\",\"bytes\":0}",
-            Some(Field::Bytes),
-            None,
-            FieldKind::WrongKind,
-        ),
-        (
-            "{\"place\":\"a\",\"name\":\"b\",\"bytes\":\"0\",\"x\":0}",
-            Some(Field::Bytes),
-            None,
-            FieldKind::BadHex,
-        ),
-        (
-            "{\"place\":\"a\",\"name\":\"b\",\"bytes\":\"\",\"\":0}",
-            None,
-            None,
-            FieldKind::Unknown,
+            r#"{"root":"a","nonce":"000102030405060708090a0b0c0d0e0f","phrase":"?","x":1}"#,
+            " unknown",
         ),
     ];
-    expect_faults(&rt, rt.alloc(), Section::Artefacts, 1, &rows)
+    expect_faults(&rt, rt.alloc(), 2, "$.sessions[0]", &sessions)
 }
 
 #[test]
-fn the_faults_of_a_session_are_found(rt: HostRuntime) -> Result<(), Fail> {
-    let rows: [Row<'_>; 11] = [
-        ("\"CPY\"", None, None, FieldKind::WrongKind),
+fn the_faults_of_a_reference_or_a_bundle_are_found(rt: HostRuntime) -> Result<(), Fail> {
+    let references = [
+        (r#"true"#, " wrong-kind"),
+        (r#"{}"#, ".place missing"),
+        (r#"{"place":"a","target":null}"#, ".target wrong-kind"),
+        (r#"{"place":"a","target":"_"}"#, ".target bad-name"),
+        (r#"{"place":"a","target":"b"}"#, ".asp missing"),
+        (r#"{"place":"a","asp":1}"#, ".asp wrong-kind"),
+        (r#"{"place":"a","asp":"A"}"#, ".asp bad-name"),
+        (r#"{"place":"a","asp":"b","args":"c"}"#, ".args wrong-kind"),
         (
-            "{\"nonce\":\"\"}",
-            Some(Field::Root),
-            None,
-            FieldKind::Missing,
+            r#"{"place":"a","asp":"b","args":[1,2,3,4,null]}"#,
+            ".args out-of-range",
         ),
         (
-            "{\"root\":[]}",
-            Some(Field::Root),
-            None,
-            FieldKind::WrongKind,
+            r#"{"place":"a","asp":"b","args":[1,"B"]}"#,
+            ".args[1] bad-name",
         ),
         (
-            "{\"root\":\"a-b\"}",
-            Some(Field::Root),
-            None,
-            FieldKind::BadName,
+            r#"{"place":"a","asp":"b","args":[1.0]}"#,
+            ".args[0] wrong-kind",
         ),
         (
-            "{\"root\":\"a\",\"phrase\":7}",
-            Some(Field::Nonce),
-            None,
-            FieldKind::Missing,
+            r#"{"place":"a","asp":"b","args":[-1]}"#,
+            ".args[0] wrong-kind",
         ),
         (
-            "{\"root\":\"a\",\"nonce\":16}",
-            Some(Field::Nonce),
-            None,
-            FieldKind::WrongKind,
+            r#"{"place":"a","asp":"b","args":[1,2,4294967296]}"#,
+            ".args[2] out-of-range",
         ),
         (
-            "{\"root\":\"a\",\"nonce\":\"xx\"}",
-            Some(Field::Nonce),
-            None,
-            FieldKind::BadHex,
+            r#"{"place":"a","asp":"b","args":[18446744073709551616]}"#,
+            ".args[0] wrong-kind",
         ),
+        (r#"{"place":"a","asp":"b"}"#, ".answer missing"),
         (
-            "{\"root\":\"a\",\"nonce\":\"000102030405060708090a0b0c0d0e0f10\"}",
-            Some(Field::Nonce),
-            None,
-            FieldKind::OutOfRange,
+            r#"{"place":"a","asp":"b","answer":[]}"#,
+            ".answer wrong-kind",
         ),
+        (r#"{"place":"a","asp":"b","answer":"a"}"#, ".answer bad-hex"),
         (
-            "{\"root\":\"a\",\"nonce\":\"000102030405060708090a0b0c0d0e0f\"}",
-            Some(Field::Phrase),
-            None,
-            FieldKind::Missing,
-        ),
-        (
-            "{\"root\":\"a\",\"nonce\":\"000102030405060708090a0b0c0d0e0f\",\"phrase\":null}",
-            Some(Field::Phrase),
-            None,
-            FieldKind::WrongKind,
-        ),
-        (
-            "{\"root\":\"a\",\"nonce\":\"000102030405060708090a0b0c0d0e0f\",\"phrase\":\"?\",\"x\":1}",
-            None,
-            None,
-            FieldKind::Unknown,
+            r#"{"place":"a","asp":"b","answer":"aa","bytes":""}"#,
+            " unknown",
         ),
     ];
-    expect_faults(&rt, rt.alloc(), Section::Sessions, 2, &rows)
-}
-
-#[test]
-fn the_faults_of_a_reference_are_found(rt: HostRuntime) -> Result<(), Fail> {
-    let rows: [Row<'_>; 18] = [
-        ("true", None, None, FieldKind::WrongKind),
-        ("{}", Some(Field::Place), None, FieldKind::Missing),
+    expect_faults(&rt, rt.alloc(), 3, "$.references[0]", &references)?;
+    let bundles = [
+        (r#"[]"#, " wrong-kind"),
+        (r#"{}"#, ".session missing"),
+        (r#"{"session":"0"}"#, ".session wrong-kind"),
+        (r#"{"session":-0}"#, ".session wrong-kind"),
+        (r#"{"session":1}"#, ".session out-of-range"),
         (
-            "{\"place\":\"a\",\"target\":null}",
-            Some(Field::Target),
-            None,
-            FieldKind::WrongKind,
+            r#"{"session":18446744073709551615}"#,
+            ".session out-of-range",
         ),
-        (
-            "{\"place\":\"a\",\"target\":\"_\"}",
-            Some(Field::Target),
-            None,
-            FieldKind::BadName,
-        ),
-        (
-            "{\"place\":\"a\",\"target\":\"b\"}",
-            Some(Field::Asp),
-            None,
-            FieldKind::Missing,
-        ),
-        (
-            "{\"place\":\"a\",\"asp\":1}",
-            Some(Field::Asp),
-            None,
-            FieldKind::WrongKind,
-        ),
-        (
-            "{\"place\":\"a\",\"asp\":\"A\"}",
-            Some(Field::Asp),
-            None,
-            FieldKind::BadName,
-        ),
-        (
-            "{\"place\":\"a\",\"asp\":\"b\",\"args\":\"c\"}",
-            Some(Field::Args),
-            None,
-            FieldKind::WrongKind,
-        ),
-        (
-            "{\"place\":\"a\",\"asp\":\"b\",\"args\":[1,2,3,4,null]}",
-            Some(Field::Args),
-            None,
-            FieldKind::OutOfRange,
-        ),
-        (
-            "{\"place\":\"a\",\"asp\":\"b\",\"args\":[1,\"B\"]}",
-            Some(Field::Args),
-            Some(1),
-            FieldKind::BadName,
-        ),
-        (
-            "{\"place\":\"a\",\"asp\":\"b\",\"args\":[1.0]}",
-            Some(Field::Args),
-            Some(0),
-            FieldKind::WrongKind,
-        ),
-        (
-            "{\"place\":\"a\",\"asp\":\"b\",\"args\":[-1]}",
-            Some(Field::Args),
-            Some(0),
-            FieldKind::WrongKind,
-        ),
-        (
-            "{\"place\":\"a\",\"asp\":\"b\",\"args\":[1,2,4294967296]}",
-            Some(Field::Args),
-            Some(2),
-            FieldKind::OutOfRange,
-        ),
-        (
-            "{\"place\":\"a\",\"asp\":\"b\",\"args\":[18446744073709551616]}",
-            Some(Field::Args),
-            Some(0),
-            FieldKind::WrongKind,
-        ),
-        (
-            "{\"place\":\"a\",\"asp\":\"b\"}",
-            Some(Field::Answer),
-            None,
-            FieldKind::Missing,
-        ),
-        (
-            "{\"place\":\"a\",\"asp\":\"b\",\"answer\":[]}",
-            Some(Field::Answer),
-            None,
-            FieldKind::WrongKind,
-        ),
-        (
-            "{\"place\":\"a\",\"asp\":\"b\",\"answer\":\"a\"}",
-            Some(Field::Answer),
-            None,
-            FieldKind::BadHex,
-        ),
-        (
-            "{\"place\":\"a\",\"asp\":\"b\",\"answer\":\"aa\",\"bytes\":\"\"}",
-            None,
-            None,
-            FieldKind::Unknown,
-        ),
+        (r#"{"session":0}"#, ".bytes missing"),
+        (r#"{"session":0,"bytes":[0]}"#, ".bytes wrong-kind"),
+        (r#"{"session":0,"bytes":"ag"}"#, ".bytes bad-hex"),
+        (r#"{"session":0,"bytes":"","places":0}"#, " unknown"),
     ];
-    expect_faults(&rt, rt.alloc(), Section::References, 3, &rows)
+    expect_faults(&rt, rt.alloc(), 4, "$.bundle", &bundles)
 }
 
-#[test]
-fn the_faults_of_a_bundle_are_found(rt: HostRuntime) -> Result<(), Fail> {
-    let rows: [Row<'_>; 9] = [
-        ("{}", Some(Field::Session), None, FieldKind::Missing),
-        (
-            "{\"session\":\"0\"}",
-            Some(Field::Session),
-            None,
-            FieldKind::WrongKind,
-        ),
-        (
-            "{\"session\":-0}",
-            Some(Field::Session),
-            None,
-            FieldKind::WrongKind,
-        ),
-        (
-            "{\"session\":1}",
-            Some(Field::Session),
-            None,
-            FieldKind::OutOfRange,
-        ),
-        (
-            "{\"session\":18446744073709551615}",
-            Some(Field::Session),
-            None,
-            FieldKind::OutOfRange,
-        ),
-        (
-            "{\"session\":0}",
-            Some(Field::Bytes),
-            None,
-            FieldKind::Missing,
-        ),
-        (
-            "{\"session\":0,\"bytes\":[0]}",
-            Some(Field::Bytes),
-            None,
-            FieldKind::WrongKind,
-        ),
-        (
-            "{\"session\":0,\"bytes\":\"ag\"}",
-            Some(Field::Bytes),
-            None,
-            FieldKind::BadHex,
-        ),
-        (
-            "{\"session\":0,\"bytes\":\"\",\"places\":0}",
-            None,
-            None,
-            FieldKind::Unknown,
-        ),
-    ];
-    expect_faults(&rt, rt.alloc(), Section::Bundle, 4, &rows)
-}
-
-/// The error of a fault in a field of the job itself.
-fn top_fault(field: Option<Field>, kind: FieldKind) -> Option<JobError> {
-    let at = FieldAt {
-        section: Section::Top,
-        index: 0,
-        field,
-        item: None,
-    };
-    Some(JobError::BadJob { at, kind })
+/// The text with the place put in for each `P` and the session for each `S`.
+fn filled(alloc: Global, shape: &str) -> Result<String, AllocError> {
+    let mut text = String::new(alloc);
+    for byte in shape.as_bytes() {
+        match *byte {
+            b'P' => text.push_str(PLACE)?,
+            b'S' => text.push_str(SESSION)?,
+            other => text.push(char::from(other))?,
+        }
+    }
+    Ok(text)
 }
 
 #[test]
 fn the_faults_of_the_job_itself_are_found(rt: HostRuntime) -> Result<(), Fail> {
+    let alloc = rt.alloc();
     let rows = [
-        ("[]", top_fault(None, FieldKind::WrongKind)),
-        ("{}", top_fault(Some(Field::Places), FieldKind::Missing)),
+        (r#"[]"#, "$ wrong-kind"),
+        (r#"{}"#, "$.places missing"),
+        (r#"{"places":0}"#, "$.places wrong-kind"),
+        (r#"{"places":[]}"#, "$.places out-of-range"),
+        (r#"{"places":[P,P,{}]}"#, "$.places[2].name missing"),
+        (r#"{"places":[P],"artefacts":{}}"#, "$.artefacts wrong-kind"),
+        (r#"{"places":[P],"references":7}"#, "$.sessions missing"),
+        (r#"{"places":[P],"sessions":""}"#, "$.sessions wrong-kind"),
+        (r#"{"places":[P],"sessions":[]}"#, "$.sessions out-of-range"),
         (
-            "{\"places\":0}",
-            top_fault(Some(Field::Places), FieldKind::WrongKind),
+            r#"{"places":[P],"sessions":[S],"references":null}"#,
+            "$.references wrong-kind",
         ),
         (
-            "{\"places\":[]}",
-            top_fault(Some(Field::Places), FieldKind::OutOfRange),
+            r#"{"places":[P],"sessions":[S],"bundle":{"session":0,"bytes":""},"x":[]}"#,
+            "$ unknown",
         ),
-        (
-            "{\"places\":[P],\"artefacts\":{}}",
-            top_fault(Some(Field::Artefacts), FieldKind::WrongKind),
-        ),
-        (
-            "{\"places\":[P],\"references\":7}",
-            top_fault(Some(Field::Sessions), FieldKind::Missing),
-        ),
-        (
-            "{\"places\":[P],\"sessions\":\"\"}",
-            top_fault(Some(Field::Sessions), FieldKind::WrongKind),
-        ),
-        (
-            "{\"places\":[P],\"sessions\":[]}",
-            top_fault(Some(Field::Sessions), FieldKind::OutOfRange),
-        ),
-        (
-            "{\"places\":[P],\"sessions\":[S],\"references\":null}",
-            top_fault(Some(Field::References), FieldKind::WrongKind),
-        ),
-        (
-            "{\"places\":[P],\"sessions\":[S],\"bundle\":[]}",
-            top_fault(Some(Field::Bundle), FieldKind::WrongKind),
-        ),
-        (
-            "{\"places\":[P],\"sessions\":[S],\"x\":[]}",
-            top_fault(None, FieldKind::Unknown),
-        ),
-        ("{\"places\":[P],\"sessions\":[S]} ", None),
-        ("{\"places\":[P],\"sessions\":[0],\"sessions\":[S]}", None),
-        ("{\"places\":[P],\"sessions\":[S]", Some(JobError::NotJson)),
-        ("", Some(JobError::NotJson)),
-        ("{\"places\":1e999}", Some(JobError::NotJson)),
+        (r#"{"places":[P],"sessions":[S]}"#, "$.bundle missing"),
     ];
     for (shape, expected) in rows {
-        let mut text = String::new(rt.alloc());
-        for piece in shape.split('P') {
-            if !text.is_empty() {
-                text.push_str(PLACE)?;
-            }
-            for (number, half) in piece.split('S').enumerate() {
-                if number > 0 {
-                    text.push_str(SESSION)?;
-                }
-                text.push_str(half)?;
-            }
-        }
-        assert_eq!(rt;
-            refusal(rt.alloc(), text.as_str(), false),
-            expected,
-            "{shape}"
-        );
+        let text = filled(alloc, shape)?;
+        let error = refusal(alloc, text.as_str(), true).ok_or("refused")?;
+        let found = fault_text(alloc, error)?;
+        assert_eq!(rt; found.as_str(), expected, "{shape}");
     }
-    let bare =
-        "{\"places\":[{\"name\":\"bank\",\"key\":\"000102030405060708090a0b0c0d0e0f\"}],\"sessions\":[{\"root\":\"bank\",\"nonce\":\"000102030405060708090a0b0c0d0e0f\",\"phrase\":\"CPY\"}]}";
-    assert_eq!(rt;
-        refusal(rt.alloc(), bare, true),
-        top_fault(Some(Field::Bundle), FieldKind::Missing)
-    );
+    let rows = [
+        (r#"{"places":[P],"sessions":[S]} "#, None),
+        (r#"{"places":[P],"sessions":[0],"sessions":[S]}"#, None),
+        (r#"{"places":[P],"sessions":[S]"#, Some(JobError::NotJson)),
+        (r#""#, Some(JobError::NotJson)),
+        (r#"{"places":1e999}"#, Some(JobError::NotJson)),
+    ];
+    for (shape, expected) in rows {
+        let text = filled(alloc, shape)?;
+        assert_eq!(rt; refusal(alloc, text.as_str(), false), expected, "{shape}");
+    }
     Ok(())
 }
 
-const BANK: &str =
-    "{\"name\":\"bank\",\"key\":\"000102030405060708090a0b0c0d0e0f\",\"offers\":[\"scan\"]}";
+const BANK: &str = r#"{"name":"bank","key":"000102030405060708090a0b0c0d0e0f","offers":["scan"]}"#;
 
-const Q: &str = "{\"name\":\"q\",\"key\":\"101112131415161718191a1b1c1d1e1f\"}";
+const Q: &str = r#"{"name":"q","key":"101112131415161718191a1b1c1d1e1f"}"#;
 
-const BANK_SCAN: &str = "{\"place\":\"bank\",\"name\":\"scan\",\"bytes\":\"01\"}";
+const BANK_SCAN: &str = r#"{"place":"bank","name":"scan","bytes":"01"}"#;
 
-const BANK_SCAN_AGAIN: &str = "{\"place\":\"bank\",\"name\":\"scan\",\"bytes\":\"02\"}";
+const BANK_SCAN_AGAIN: &str = r#"{"place":"bank","name":"scan","bytes":"02"}"#;
 
-const Q_SCAN: &str = "{\"place\":\"q\",\"name\":\"scan\",\"bytes\":\"01\"}";
+const Q_SCAN: &str = r#"{"place":"q","name":"scan","bytes":"01"}"#;
 
-const OF_BANK: &str = "{\"place\":\"bank\",\"asp\":\"scan\",\"args\":[7,\"x\"],\"answer\":\"01\"}";
+const OF_BANK: &str = r#"{"place":"bank","asp":"scan","args":[7,"x"],"answer":"01"}"#;
 
-const OF_BANK_AGAIN: &str =
-    "{\"place\":\"bank\",\"asp\":\"scan\",\"args\":[7,\"x\"],\"answer\":\"02\"}";
+const OF_BANK_AGAIN: &str = r#"{"place":"bank","asp":"scan","args":[7,"x"],"answer":"02"}"#;
 
-const OF_Q: &str =
-    "{\"place\":\"bank\",\"target\":\"q\",\"asp\":\"scan\",\"args\":[7,\"x\"],\"answer\":\"01\"}";
+const OF_Q: &str = r#"{"place":"bank","target":"q","asp":"scan","args":[7,"x"],"answer":"01"}"#;
 
 const ONE: &str =
-    "{\"root\":\"bank\",\"nonce\":\"00000000000000000000000000000001\",\"phrase\":\"USM scan\"}";
+    r#"{"root":"bank","nonce":"00000000000000000000000000000001","phrase":"USM scan"}"#;
 
-const TWO: &str =
-    "{\"root\":\"q\",\"nonce\":\"00000000000000000000000000000002\",\"phrase\":\"CPY\"}";
+const TWO: &str = r#"{"root":"q","nonce":"00000000000000000000000000000002","phrase":"CPY"}"#;
 
-const ONE_AGAIN: &str =
-    "{\"root\":\"q\",\"nonce\":\"00000000000000000000000000000001\",\"phrase\":\"SIG\"}";
+const ONE_AGAIN: &str = r#"{"root":"q","nonce":"00000000000000000000000000000001","phrase":"SIG"}"#;
 
-const NOWHERE: &str =
-    "{\"root\":\"zz\",\"nonce\":\"00000000000000000000000000000003\",\"phrase\":\"CPY\"}";
+const NOWHERE: &str = r#"{"root":"zz","nonce":"00000000000000000000000000000003","phrase":"CPY"}"#;
 
 const NO_PHRASE: &str =
-    "{\"root\":\"q\",\"nonce\":\"00000000000000000000000000000004\",\"phrase\":\"CPY CPY\"}";
+    r#"{"root":"q","nonce":"00000000000000000000000000000004","phrase":"CPY CPY"}"#;
 
 const NOT_OFFERED: &str =
-    "{\"root\":\"q\",\"nonce\":\"00000000000000000000000000000005\",\"phrase\":\"CPY -> USM scan\"}";
+    r#"{"root":"q","nonce":"00000000000000000000000000000005","phrase":"CPY -> USM scan"}"#;
 
 /// The items of a list, with commas between them.
 fn listed(alloc: Global, items: &[&str]) -> Result<String, AllocError> {
@@ -887,7 +625,7 @@ fn an_accepted_job_holds_what_is_written(rt: HostRuntime) -> Result<(), Fail> {
         artefacts.as_str(),
         sessions.as_str(),
         references.as_str(),
-        "{\"session\":1,\"bytes\":\"AbCd\"}",
+        r#"{"session":1,"bytes":"AbCd"}"#,
     ];
     let text = job_of_parts(alloc, &parts)?;
     let job = job_of(alloc, text.as_bytes(), true)?;
@@ -922,19 +660,31 @@ fn many(alloc: Global, front: &str, back: &str, count: u16) -> Result<String, Al
     Ok(text)
 }
 
+/// The error of a list that is too long.
+fn too_long(field: Field) -> JobError {
+    let at = FieldAt {
+        section: Section::Top,
+        index: 0,
+        field: Some(field),
+        item: None,
+    };
+    let kind = FieldKind::OutOfRange;
+    JobError::BadJob { at, kind }
+}
+
 #[test]
 fn lists_have_limits(rt: HostRuntime) -> Result<(), Fail> {
     let alloc = rt.alloc();
     let place = (
-        "{\"name\":\"p",
-        "\",\"key\":\"000102030405060708090a0b0c0d0e0f\"}",
+        r#"{"name":"p"#,
+        r#"","key":"000102030405060708090a0b0c0d0e0f"}"#,
     );
-    let artefact = ("{\"place\":\"q\",\"name\":\"a", "\",\"bytes\":\"\"}");
+    let artefact = (r#"{"place":"q","name":"a"#, r#"","bytes":""}"#);
     let session = (
-        "{\"root\":\"bank\",\"nonce\":\"0000000000000000000000000000",
-        "\",\"phrase\":\"CPY\"}",
+        r#"{"root":"bank","nonce":"0000000000000000000000000000"#,
+        r#"","phrase":"CPY"}"#,
     );
-    let reference = ("{\"place\":\"q\",\"asp\":\"a", "\",\"answer\":\"\"}");
+    let reference = (r#"{"place":"q","asp":"a"#, r#"","answer":""}"#);
     let rows = [
         (0, Field::Places, place, 64),
         (1, Field::Artefacts, artefact, 4096),
@@ -942,15 +692,12 @@ fn lists_have_limits(rt: HostRuntime) -> Result<(), Fail> {
         (3, Field::References, reference, 4096),
     ];
     for (part, field, (front, back), limit) in rows {
-        for (count, expected) in [
-            (limit, None),
-            (limit + 1, top_fault(Some(field), FieldKind::OutOfRange)),
-        ] {
+        for (count, expected) in [(limit, None), (limit + 1, Some(too_long(field)))] {
             let list = many(alloc, front, back, count)?;
             let nowhere = many(
                 alloc,
-                "{\"root\":\"p",
-                "\",\"nonce\":\"000102030405060708090a0b0c0d0e0f\",\"phrase\":\"CPY\"}",
+                r#"{"root":"p"#,
+                r#"","nonce":"000102030405060708090a0b0c0d0e0f","phrase":"CPY"}"#,
                 1,
             )?;
             let mut parts = [PLACE, "", SESSION, "", BUNDLE];

@@ -4,3 +4,4 @@ pub mod AnswerLemmas
 pub mod BundleLemmas
 pub mod FixedLemmas
 pub mod RightLemmas
+mod WorkedRecords
