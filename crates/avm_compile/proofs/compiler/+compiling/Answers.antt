@@ -10,7 +10,7 @@ use Rattle.avm_code.specs.declared.instr.Instr.TheVariants.{End}
 use Rattle.avm_code.specs.declared.program.Block.{Block}
 use Rattle.avm_code.specs.Blocks.{block}
 use Rattle.avm_compile.specs.Program.{code_of, whole_code, blocks_of}
-use Rattle.avm_compile.proofs.compiler.+part.Goals as goal
+use Rattle.avm_compile.proofs.compiler.+compiling.Goals as goal
 
 slot_filled : (old opened inside now more : List Block) (empty : Block) (slot : ℕ) (name : BlockName) (place : List ℕ) (code whole : List Instr) → slot ≡ length old → opened ≡ old ++ empty ∷ [] → inside ≡ opened ++ more → code ≡ whole → now ≡ set inside slot (block name place code) → now ≡ old ++ block name place whole ∷ more
 slot_filled old opened inside now more empty slot name place code whole at_end opens inner same filled =
@@ -32,12 +32,12 @@ arm_filled old opened mid inside now left right place i next slot empty was code
     let ahead : inside ≡ opened ++ (blocks_of left place (i + 1) ++ blocks_of right place (i + 1 + event_count left)) = outer ∙ ap (λ n. mid ++ blocks_of right place n) follows ∙ ap (λ xs. xs ++ blocks_of right place (i + 1 + event_count left)) inner ∙ append_assoc opened (blocks_of left place (i + 1)) (blocks_of right place (i + 1 + event_count left)) in
     slot_filled old opened inside now (blocks_of left place (i + 1) ++ blocks_of right place (i + 1 + event_count left)) empty slot (Of i) place (code ++ End ∷ []) (whole_code right (i + 1 + event_count left)) at_end opens ahead same filled
 
-pub returns-in_ok-push_instr-in-At-2-clause-blocks :
-    goal.returns-in_ok-push_instr-in-At-2-clause-blocks
-returns-in_ok-push_instr-in-At-2-clause-blocks t c =
+pub part-returns-in_ok-push_instr-in-At-2-clause-blocks :
+    goal.part-returns-in_ok-push_instr-in-At-2-clause-blocks
+part-returns-in_ok-push_instr-in-At-2-clause-blocks t c =
     rw (c.in-At.is, ← c.deref.ensures) (request_filled _ _ _ _ (term c.deref.result.now) c.in-At.asked c.args.number _ _ c.new-inner.result.items c.part.new.code.items c.in_ok-slot-in-At.ensures.slot c.in_ok-slot-in-At.ensures.blocks c.new-inner.ensures.items c.in_ok-last-in-At.ensures.blocks c.in_ok-last-in-At.ensures.code c.in_ok-close_block-in-At.ensures)
 
-pub returns-in_ok-push_instr-in-Par-2-clause-blocks :
-    goal.returns-in_ok-push_instr-in-Par-2-clause-blocks
-returns-in_ok-push_instr-in-Par-2-clause-blocks t c =
+pub part-returns-in_ok-push_instr-in-Par-2-clause-blocks :
+    goal.part-returns-in_ok-push_instr-in-Par-2-clause-blocks
+part-returns-in_ok-push_instr-in-Par-2-clause-blocks t c =
     rw (c.in-Par.is, ← c.deref-in-Par.ensures, ← c.deref-in-Par-2.ensures) (arm_filled _ _ _ _ _ (term c.deref-in-Par.result.now) (term c.deref-in-Par-2.result.now) c.args.place c.args.number c.in_ok-next-in-Par.next _ _ c.new-arm.result.items c.part-in-Par-2.new.code.items c.in_ok-slot-in-Par.ensures.slot c.in_ok-slot-in-Par.ensures.blocks c.in_ok-next-in-Par.ensures.next c.new-arm.ensures.items c.in_ok-next-in-Par.ensures.blocks c.in_ok-last-in-Par.ensures.blocks c.in_ok-last-in-Par.ensures.code c.in_ok-close_block-in-Par.ensures)
