@@ -69,6 +69,7 @@ fn close_block(
 
 // The code of a part of a phrase behind the code of its block, and the blocks inside it behind the
 // others; the result is the number behind the part.
+#[cycle(compiling)]
 fn part(
     alloc: Global,
     phrase: &Phrase,
@@ -104,7 +105,7 @@ fn part(
             Ok(last + 1)
         }
         Phrase::Then(left, right) => {
-            let next = part(alloc, left, place, number, code, blocks)?;
+            let next = chained(alloc, left, place, number, code, blocks)?;
             part(alloc, right, place, next, code, blocks)
         }
         Phrase::Seq(split, left, right) => {
@@ -125,6 +126,33 @@ fn part(
             push_instr(code, Instr::JoinPar(last, number))?;
             Ok(last + 1)
         }
+    }
+}
+
+// The same, in a frame of its own that is small: a chain nests as deep as it is long, while all other
+// nesting is of brackets, of which few are open.
+#[cycle(compiling)]
+fn chained(
+    alloc: Global,
+    phrase: &Phrase,
+    place: Place,
+    number: u32,
+    code: &mut Vec<Instr>,
+    blocks: &mut Vec<Block>,
+) -> Result<u32, NoMemory>
+    requires { number + event_count (term phrase.now) < 2 ^ 32 }
+    ensures next { IfOk result (λ next. next ≡ number + event_count (term phrase.now)) }
+    ensures code { OnOk result ((rest : List Instr) →
+        code.new.items ++ rest ≡ code.old.items ++ code_of (term phrase.now) number rest) }
+    ensures blocks { OnOk result
+        (blocks.new.items ≡ blocks.old.items ++ blocks_of (term phrase.now) place number) }
+{
+    match phrase {
+        Phrase::Then(left, right) => {
+            let next = chained(alloc, left, place, number, code, blocks)?;
+            part(alloc, right, place, next, code, blocks)
+        }
+        _ => part(alloc, phrase, place, number, code, blocks),
     }
 }
 

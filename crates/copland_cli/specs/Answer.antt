@@ -1,16 +1,25 @@
 -- The answers of the program, each with its cause and with what was written.
-use Rattle.std.specs.Prelude.{◌≡◌, ◌≢◌, ◌≤◌, ◌⊎◌, ℕ, List, ◌++◌, length, Bool, false, Some}
+use Rattle.std.specs.Prelude.{◌≡◌, ◌≢◌, ◌≤◌, ◌⊎◌, ℕ, List, ◌++◌, length, Bool, true, false, Some, codes}
 use Rattle.byte_ports.specs.Port.{Took}
+use Rattle.bench_trait.specs.declared.artefacts.Artefact.{Artefact}
 use Rattle.bench_trait.specs.declared.ask.Ask.{Ask}
 use Rattle.bench_trait.specs.declared.bench.BenchFault.{BenchFault}
-use Rattle.copland_cli.specs.Finding.{Finding, IsFinding, no_json, no_first_form, first_job}
-use Rattle.copland_cli.specs.Outcome.{IsReportOf}
-use Rattle.copland_cli.specs.Refusal.{line_of}
-use Rattle.copland_cli.specs.Run.{Port, Failed, IsBadWords, IsBuilt, IsInput, IsRead, IsTooLong, IsUnbuilt, IsUnread, input_limit}
-use Rattle.copland_cli.specs.declared.refusal.Refusal.{Refusal}
-use Rattle.copland_cli.specs.declared.refusal.Refusal.TheVariants as refusal
+use Rattle.job_reader.specs.Finding.{Finding, JobView, accepted, refused}
+use Rattle.job_reader.specs.declared.refusal.JobError.{JobError}
+use Rattle.report_text.specs.Refusal.{job_line, line_of}
+use Rattle.report_text.specs.declared.refusal.Refusal.TheVariants as refusal
+use Rattle.copland_cli.specs.Finding.{IsFinding}
+use Rattle.copland_cli.specs.Reported.{IsReport}
+use Rattle.copland_cli.specs.Run.{Port, Failed, IsBadWords, IsBuilt, IsRead, IsTooLong, IsUnbuilt, IsUnread, input_limit}
+use Rattle.copland_cli.specs.Status.{job_status}
+use Rattle.copland_cli.specs.Words.{Spells}
+use Rattle.copland_cli.specs.declared.words.Command.{Command}
 use Rattle.copland_cli.specs.declared.status.Status.{Status}
-use Rattle.copland_cli.specs.declared.status.Status.TheVariants.{Good, BadWords, ReadFault, TooLong, NotJson, WriteFault, NoMemory, Unbuilt}
+use Rattle.copland_cli.specs.declared.status.Status.TheVariants.{Good, SomeFailed, Rejected, BadWords, ReadFault, TooLong, NoReference, BadBundle, WriteFault, NoMemory, Unbuilt}
+
+-- the line of a command that isn't built
+abbrev pub unbuilt_line : List ℕ
+unbuilt_line = codes "error: unbuilt\n"
 
 -- the first of these bytes were written, and nothing else
 abbrev pub WritesFront : Port → List ℕ → Type 0
@@ -21,43 +30,52 @@ WritesFront sink bytes =
 abbrev pub Writes : Port → List ℕ → Type 0
 Writes sink bytes = Took sink.bytes_before sink.bytes_after bytes
 
--- a refusal's line was written, and nothing else; where the sink met a fault, the front of it
-abbrev pub WritesLine : Port → Refusal → Type 0
-WritesLine sink refused = Writes sink (line_of refused) ⊎ (Failed sink × WritesFront sink (line_of refused))
+-- the line was written, and nothing else; where the sink met a fault, the front of it
+abbrev pub WritesLine : Port → List ℕ → Type 0
+WritesLine sink line = Writes sink line ⊎ (Failed sink × WritesFront sink line)
 
--- the report of a right record of the job's session was written whole
-abbrev pub Reports : (Ask → List ℕ → Type 0) → (Ask → BenchFault → Type 0) → Port → Port → Bool → Type 0
-Reports Gives Fails source sink some_failed =
-    (bytes : List ℕ) × (text : List ℕ) × IsInput source bytes × IsReportOf Gives Fails bytes text some_failed × Writes sink text
+-- a report on the accepted job that the source gave was written whole
+abbrev pub WritesReport : (JobView → List ℕ → Bool → Type 0) → Port → Port → Bool → Type 0
+WritesReport Reports source sink some_failed =
+    (job : JobView) × (text : List ℕ) × IsRead source (accepted job) × Reports job text some_failed × Writes sink text
 
 -- the sink met a fault while such a report was written: the front of it stands
-abbrev pub ReportFails : (Ask → List ℕ → Type 0) → (Ask → BenchFault → Type 0) → Port → Port → Type 0
-ReportFails Gives Fails source sink =
-    (bytes : List ℕ) × (text : List ℕ) × (some_failed : Bool) × IsInput source bytes × IsReportOf Gives Fails bytes text some_failed × Failed sink × WritesFront sink text
+abbrev pub ReportFails : (JobView → List ℕ → Bool → Type 0) → Port → Port → Type 0
+ReportFails Reports source sink =
+    (job : JobView) × (text : List ℕ) × (some_failed : Bool) × IsRead source (accepted job) × Reports job text some_failed × Failed sink × WritesFront sink text
 
--- an answer to the words of the one command that is built, with its cause and what was written; the
--- answers that aren't named here don't come, and so no session fails yet
-abbrev pub Walks : (Ask → List ℕ → Type 0) → (Ask → BenchFault → Type 0) → Port → Port → Status → Type 0
-Walks Gives Fails source sink Good = Reports Gives Fails source sink false
-Walks Gives Fails source sink ReadFault = Failed source × WritesLine sink refusal.ReadFault
-Walks Gives Fails source sink TooLong = IsTooLong source × WritesLine sink refusal.TooLong
-Walks Gives Fails source sink NotJson = IsRead source no_json × WritesLine sink refusal.NotJson
-Walks Gives Fails source sink Unbuilt = IsRead source no_first_form × WritesLine sink refusal.Unbuilt
-Walks Gives Fails source sink WriteFault = ReportFails Gives Fails source sink
-Walks Gives Fails source sink NoMemory = WritesLine sink refusal.NoMemory
-Walks Gives Fails source sink _ = ⊥
+-- the job that the source gave is refused with this status, and its line was written
+abbrev pub RefusesJob : Port → Port → Status → Type 0
+RefusesJob source sink status =
+    (error : JobError) × IsRead source (refused error) × (status ≡ job_status error) × WritesLine sink (job_line error)
 
--- an answer by the words: a walk where they are its words; else the source isn't read
-pub record IsAnswer (Gives : Ask → List ℕ → Type 0) (Fails : Ask → BenchFault → Type 0) (words : List (List ℕ)) (source sink : Port) (status : Status) : Type 0 where
-  pub built : IsBuilt words → Walks Gives Fails source sink status
-  pub bad : IsBadWords words → (status ≡ BadWords) × IsUnread source × WritesLine sink refusal.Words
-  pub unbuilt : IsUnbuilt words → (status ≡ Unbuilt) × IsUnread source × WritesLine sink refusal.Unbuilt
+-- an answer to the words of a command that is built, by what its reports say of a job
+abbrev pub Runs : (JobView → List ℕ → Bool → Type 0) → Port → Port → Status → Type 0
+Runs Reports source sink Good = WritesReport Reports source sink false
+Runs Reports source sink SomeFailed = WritesReport Reports source sink true
+Runs Reports source sink Rejected = ⊥
+Runs Reports source sink BadWords = ⊥
+Runs Reports source sink ReadFault = Failed source × WritesLine sink (line_of refusal.ReadFault)
+Runs Reports source sink TooLong = IsTooLong source × WritesLine sink (line_of refusal.TooLong)
+Runs Reports source sink NoReference = ⊥
+Runs Reports source sink BadBundle = ⊥
+Runs Reports source sink WriteFault = ReportFails Reports source sink
+Runs Reports source sink NoMemory = WritesLine sink (line_of refusal.NoMemory)
+Runs Reports source sink Unbuilt = ⊥
+Runs Reports source sink status = RefusesJob source sink status
 
--- where no fault was met and memory sufficed, the answer to a job is fixed by its bytes
+-- an answer by the words: a run where they are those of a command that is built; else the source isn't
+-- read
+pub record IsAnswer (Gives : List Artefact → Ask → List ℕ → Type 0) (Fails : List Artefact → Ask → BenchFault → Type 0) (words : List (List ℕ)) (source sink : Port) (status : Status) : Type 0 where
+  pub built : (command : Command) → Spells words command → IsBuilt command → Runs (IsReport Gives Fails command) source sink status
+  pub bad : IsBadWords words → (status ≡ BadWords) × IsUnread source × WritesLine sink (line_of refusal.Words)
+  pub unbuilt : (command : Command) → Spells words command → IsUnbuilt command → (status ≡ Unbuilt) × IsUnread source × WritesLine sink unbuilt_line
+
+-- where no fault was met and memory sufficed, a refusal of a job comes exactly where its bytes call for
+-- it, and a report exactly where they are an accepted job
 abbrev pub ComesAt : Finding → Status → Type 0
-ComesAt no_json status = status ≡ NotJson
-ComesAt no_first_form status = status ≡ Unbuilt
-ComesAt (first_job job) status = status ≡ Good
+ComesAt (refused error) status = status ≡ job_status error
+ComesAt (accepted job) status = (status ≡ Good) ⊎ (status ≡ SomeFailed)
 
 -- no port met a fault, and memory sufficed
 pub record IsUndisturbed (source sink : Port) (status : Status) : Type 0 where
@@ -65,7 +83,7 @@ pub record IsUndisturbed (source sink : Port) (status : Status) : Type 0 where
   pub sink_kept : Failed sink → ⊥
   pub memory : status ≢ NoMemory
 
--- what the source told that it had left is a job of that kind, and no longer than an input may be
+-- what the source told that it had left is so, and no longer than an input may be
 pub record Told (source : Port) (finding : Finding) : Type 0 where
   pub bytes : List ℕ
   pub told : source.bytes_before ≡ Some bytes

@@ -1,13 +1,10 @@
 pub mod Status
 pub mod Words
-pub mod FirstForm
-pub mod FirstSession
+pub mod Finding
 pub mod Report
 pub mod Recorded
-pub mod Refusal
-pub mod Finding
+pub mod Reported
 pub mod Run
 pub mod Outcome
-pub mod Found
 pub mod Answer
 pub mod Concluded

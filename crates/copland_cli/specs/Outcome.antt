@@ -1,55 +1,56 @@
 -- What is decided before anything is written.
-use Rattle.std.specs.Prelude.{◌≡◌, ◌⊎◌, ℕ, List, Bool, true, false}
+use Rattle.std.specs.Prelude.{◌≡◌, ◌⊎◌, ℕ, List, Bool}
+use Rattle.bench_trait.specs.declared.artefacts.Artefact.{Artefact}
 use Rattle.bench_trait.specs.declared.ask.Ask.{Ask}
 use Rattle.bench_trait.specs.declared.bench.BenchFault.{BenchFault}
-use Rattle.session_model.specs.Session.{Session}
-use Rattle.session_model.specs.Record.{Record, done, failed, IsRisingRecord}
-use Rattle.copland_cli.specs.Finding.{IsFinding, no_json, no_first_form, first_job}
-use Rattle.copland_cli.specs.Report.{record_text}
-use Rattle.copland_cli.specs.Run.{Port, Failed, IsBadWords, IsBuilt, IsInput, IsRead, IsTooLong, IsUnbuilt, IsUnread, IsWithin}
-use Rattle.copland_cli.specs.declared.refusal.Refusal.TheVariants.{Words, Unbuilt, ReadFault, TooLong, NotJson, NoMemory}
+use Rattle.job_reader.specs.Finding.{Finding, JobView, accepted, refused}
+use Rattle.job_reader.specs.declared.refusal.JobError.{JobError}
+use Rattle.job_reader.specs.declared.refusal.JobError.TheVariants as errors
+use Rattle.report_text.specs.declared.refusal.Refusal.{Refusal}
+use Rattle.report_text.specs.declared.refusal.Refusal.TheVariants.{Words, ReadFault, TooLong, Job, NoMemory}
+use Rattle.copland_cli.specs.Finding.{IsSolely}
+use Rattle.copland_cli.specs.Reported.{IsReport}
+use Rattle.copland_cli.specs.Run.{Port, Failed, IsBadWords, IsBuilt, IsInput, IsTooLong, IsUnbuilt, IsUnread, IsWithin}
+use Rattle.copland_cli.specs.Words.{Spells}
+use Rattle.copland_cli.specs.declared.words.Command.{Command}
 use Rattle.copland_cli.specs.declared.outcome.Outcome.{Outcome}
-use Rattle.copland_cli.specs.declared.outcome.Outcome.TheVariants.{Refused, Reported}
+use Rattle.copland_cli.specs.declared.outcome.Outcome.TheVariants.{Refused, Reported, Unbuilt}
 
--- the record is of a session that failed
-abbrev pub is_failed : Record → Bool
-is_failed (done trace answers bundle) = false
-is_failed (failed event fault trace) = true
+-- the source was read to its end, and its bytes are so and nothing else
+abbrev pub IsReadSolely : Port → Finding → Type 0
+IsReadSolely source finding = (bytes : List ℕ) × IsInput source bytes × IsSolely bytes finding
 
--- the text reports a right record of the session that the bytes are the job of, whatever keys there
--- are; and whether that session failed
-pub record IsReportOf (Gives : Ask → List ℕ → Type 0) (Fails : Ask → BenchFault → Type 0) (bytes text : List ℕ) (some_failed : Bool) : Type 0 where
-  pub job : Session
-  pub found : Record
-  pub read : IsFinding bytes (first_job job)
-  pub right : (keys : List (List ℕ × List ℕ)) → IsRisingRecord Gives Fails job keys found
-  pub reported : text ≡ record_text 0 found
-  pub failures : some_failed ≡ is_failed found
+-- what a command decides over bytes, by what its reports say of a job: the job's refusal, or the report
+-- of an accepted job; want of memory may come in place of either
+abbrev pub IsRunOf : (JobView → List ℕ → Bool → Type 0) → List ℕ → Outcome → Type 0
+IsRunOf Reports bytes (Refused why) =
+    (why ≡ NoMemory) ⊎ ((error : JobError) × IsSolely bytes (refused error) × (why ≡ Job error))
+IsRunOf Reports bytes (Reported report) =
+    (job : JobView) × IsSolely bytes (accepted job) × Reports job report.text report.some_failed
+IsRunOf Reports bytes Unbuilt = ⊥
 
--- what a walk over bytes decides
-abbrev pub IsWalkOf : (Ask → List ℕ → Type 0) → (Ask → BenchFault → Type 0) → List ℕ → Outcome → Type 0
-IsWalkOf Gives Fails bytes (Refused NotJson) = IsFinding bytes no_json
-IsWalkOf Gives Fails bytes (Refused Unbuilt) = IsFinding bytes no_first_form
-IsWalkOf Gives Fails bytes (Refused NoMemory) = Unit {0}
-IsWalkOf Gives Fails bytes (Refused Words) = ⊥
-IsWalkOf Gives Fails bytes (Refused ReadFault) = ⊥
-IsWalkOf Gives Fails bytes (Refused TooLong) = ⊥
-IsWalkOf Gives Fails bytes (Reported report) = IsReportOf Gives Fails bytes report.text report.some_failed
+-- the refusal for that of a job; want of memory is one of its own
+abbrev pub IsRefusalFor : JobError → Refusal → Type 0
+IsRefusalFor error why = ((error ≡ errors.NoMemory) × (why ≡ NoMemory)) ⊎ (¬ (error ≡ errors.NoMemory) × (why ≡ Job error))
 
--- what a walk over a source decides
-abbrev pub IsWalk : (Ask → List ℕ → Type 0) → (Ask → BenchFault → Type 0) → Port → Outcome → Type 0
-IsWalk Gives Fails source (Refused Words) = ⊥
-IsWalk Gives Fails source (Refused Unbuilt) = IsRead source no_first_form
-IsWalk Gives Fails source (Refused ReadFault) = Failed source × IsWithin source
-IsWalk Gives Fails source (Refused TooLong) = IsTooLong source
-IsWalk Gives Fails source (Refused NotJson) = IsRead source no_json
-IsWalk Gives Fails source (Refused NoMemory) = IsWithin source
-IsWalk Gives Fails source (Reported report) =
-    (bytes : List ℕ) × IsInput source bytes × IsReportOf Gives Fails bytes report.text report.some_failed
+-- why a command over a source is refused
+abbrev pub IsRefusedRun : Port → Refusal → Type 0
+IsRefusedRun source why =
+    (Failed source × IsWithin source × (why ≡ ReadFault))
+    ⊎ (IsTooLong source × (why ≡ TooLong))
+    ⊎ (IsWithin source × (why ≡ NoMemory))
+    ⊎ ((error : JobError) × IsReadSolely source (refused error) × (why ≡ Job error))
 
--- what the words decide: a walk; or a refusal, and then the source isn't read
-abbrev pub IsDecided : (Ask → List ℕ → Type 0) → (Ask → BenchFault → Type 0) → List (List ℕ) → Port → Outcome → Type 0
+-- what a command decides over a source
+abbrev pub IsRun : (JobView → List ℕ → Bool → Type 0) → Port → Outcome → Type 0
+IsRun Reports source (Refused why) = IsRefusedRun source why
+IsRun Reports source (Reported report) =
+    (job : JobView) × IsReadSolely source (accepted job) × Reports job report.text report.some_failed
+IsRun Reports source Unbuilt = ⊥
+
+-- what the words decide: the run of a command that is built; or none, and then the source isn't read
+abbrev pub IsDecided : (List Artefact → Ask → List ℕ → Type 0) → (List Artefact → Ask → BenchFault → Type 0) → List (List ℕ) → Port → Outcome → Type 0
 IsDecided Gives Fails words source outcome =
-    (IsBuilt words × IsWalk Gives Fails source outcome)
+    ((command : Command) × Spells words command × IsBuilt command × IsRun (IsReport Gives Fails command) source outcome)
     ⊎ (IsBadWords words × IsUnread source × (outcome ≡ Refused Words))
-    ⊎ (IsUnbuilt words × IsUnread source × (outcome ≡ Refused Unbuilt))
+    ⊎ ((command : Command) × Spells words command × IsUnbuilt command × IsUnread source × (outcome ≡ Unbuilt))

@@ -1,5 +1,9 @@
 -- The exit statuses.
 use Rattle.std.specs.Prelude.{ℕ}
+use Rattle.job_reader.specs.declared.refusal.JobError.{JobError}
+use Rattle.job_reader.specs.declared.refusal.JobError.TheVariants as errors
+use Rattle.report_text.specs.declared.refusal.Refusal.{Refusal}
+use Rattle.report_text.specs.declared.refusal.Refusal.TheVariants as refusals
 use Rattle.copland_cli.specs.declared.status.Status.{Status}
 use Rattle.copland_cli.specs.declared.status.Status.TheVariants.{Good, SomeFailed, Rejected, BadWords, ReadFault, TooLong, NotJson, BadJob, RepeatedPlace, RepeatedArtefact, RepeatedReference, BadRoot, RepeatedNonce, BadPhrase, Misplaced, Oversize, NoReference, BadBundle, WriteFault, NoMemory, Unbuilt}
 
@@ -26,3 +30,25 @@ code_of BadBundle = 10
 code_of WriteFault = 11
 code_of NoMemory = 12
 code_of Unbuilt = 13
+
+-- the answer of the program at a refusal of a job
+abbrev pub job_status : JobError → Status
+job_status errors.NotJson = NotJson
+job_status (errors.BadJob at kind) = BadJob
+job_status (errors.RepeatedPlace first second) = RepeatedPlace
+job_status (errors.RepeatedArtefact first second) = RepeatedArtefact
+job_status (errors.RepeatedReference first second) = RepeatedReference
+job_status (errors.BadRoot session) = BadRoot
+job_status (errors.RepeatedNonce first second) = RepeatedNonce
+job_status (errors.BadPhrase session at kind) = BadPhrase
+job_status (errors.Misplaced session event kind) = Misplaced
+job_status (errors.Oversize session event) = Oversize
+job_status errors.NoMemory = NoMemory
+
+-- the answer at a refusal
+abbrev pub status_of : Refusal → Status
+status_of refusals.Words = BadWords
+status_of refusals.ReadFault = ReadFault
+status_of refusals.TooLong = TooLong
+status_of (refusals.Job error) = job_status error
+status_of refusals.NoMemory = NoMemory

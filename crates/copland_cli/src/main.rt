@@ -3,11 +3,12 @@
 //! bytes that come in to the bytes that go out and the exit status.
 #![tactic(auto)]
 
-mod first_form;
+#[cfg(test)]
+mod job_tests;
 mod outcome;
 mod record;
-mod refusal;
 mod report;
+mod session;
 mod status;
 #[cfg(test)]
 mod tests;
@@ -18,7 +19,7 @@ mod words;
 use bench_trait::DigestBench;
 use byte_ports::{StdSink, StdSource};
 use outcome::Outcome;
-use refusal::Refusal;
+use report_text::Refusal;
 pub use status::Status;
 use std::env::Env;
 use std::io::ErrorKind;

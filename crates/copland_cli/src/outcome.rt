@@ -1,28 +1,27 @@
-ghost use Rattle.std.specs.Prelude.{[]};
-ghost use Rattle.phrase_tree.specs.Term.{term};
-ghost use Rattle.copland_cli.specs.FirstForm.{IsPlain};
-ghost use Rattle.copland_cli.specs.FirstSession.{session};
-ghost use Rattle.copland_cli.specs.Found.{IsFoundIn, IsWalkOn};
-ghost use Rattle.copland_cli.specs.Outcome.{IsDecided, IsWalk, IsWalkOf};
+ghost use Rattle.std.specs.Prelude.{◌≤◌, ◌↔◌, IsTrue, IfOk, length};
+ghost use Rattle.job_reader.specs.Accepted.{HasCheckedSessions, job_view};
+ghost use Rattle.copland_cli.specs.Outcome.{IsDecided, IsRefusalFor, IsRun, IsRunOf};
+ghost use Rattle.copland_cli.specs.Reported.{IsReport};
+ghost use Rattle.copland_cli.specs.Run.{IsBuilt};
 ghost use Rattle.copland_cli.specs.Words.{texts};
 
-use crate::first_form::{FirstSession, first_session};
-use crate::refusal::Refusal;
-use crate::report::push_record;
-use crate::walk::walk_rising;
+use crate::session::push_session;
 use crate::words::{Command, command_of};
 use bench_trait::Bench;
 use byte_ports::{Bytes, ReadAllError, Source, read_all};
-use serde_json::Value;
+use job_reader::{Job, JobError, accepted_job_has_few_sessions, job_of};
+use phrase_tree::NoMemory;
+use report_text::Refusal;
 use std::alloc::Global;
 
 /// The greatest length of an input, in bytes.
 const INPUT_LIMIT: u32 = 4194304;
 
-/// What is decided before anything is written: a refusal, or a report.
+/// What is decided before anything is written: a refusal, that the command isn't built, or a report.
 #[derive(Debug, Drop)]
 pub enum Outcome {
     Refused(Refusal),
+    Unbuilt,
     Reported(Report),
 }
 
@@ -41,8 +40,8 @@ pub fn decide<S: Source, B: Bench>(
     bench: &B,
 ) -> Outcome
     ensures { IsDecided
-        (λ ask answer. B.gives bench.now [] ask answer)
-        (λ ask fault. B.fails bench.now [] ask fault)
+        (λ artefacts ask answer. B.gives bench.now artefacts ask answer)
+        (λ artefacts ask fault. B.fails bench.now artefacts ask fault)
         (texts words.now)
         (record {
           bytes_before = S.left source.old;
@@ -53,16 +52,37 @@ pub fn decide<S: Source, B: Bench>(
         result }
 {
     match command_of(words) {
-        Some(Command::Walk(0)) => walk(alloc, source, bench),
         Some(Command::Attest(_)) | None => Outcome::Refused(Refusal::Words),
-        Some(_) => Outcome::Refused(Refusal::Unbuilt),
+        Some(command) => {
+            if is_built(command) {
+                run(alloc, command, source, bench)
+            } else {
+                Outcome::Unbuilt
+            }
+        }
     }
 }
 
-fn walk<S: Source, B: Bench>(alloc: Global, source: &mut S, bench: &B) -> Outcome
-    ensures { IsWalk
-        (λ ask answer. B.gives bench.now [] ask answer)
-        (λ ask fault. B.fails bench.now [] ask fault)
+fn is_built(command: Command) -> bool
+    ensures { IsTrue result ↔ IsBuilt command }
+{
+    match command {
+        Command::Check | Command::Shape | Command::Events | Command::Code | Command::Eval => true,
+        Command::Walk(schedule) => schedule == 0,
+        Command::Attest(_) | Command::Appraise | Command::Load(_) => false,
+    }
+}
+
+fn run<S: Source, B: Bench>(alloc: Global, command: Command, source: &mut S, bench: &B) -> Outcome
+    requires { IsBuilt command }
+    ensures { IsRun
+        (λ job text some_failed. IsReport
+        (λ artefacts ask answer. B.gives bench.now artefacts ask answer)
+        (λ artefacts ask fault. B.fails bench.now artefacts ask fault)
+        command
+        job
+        text
+        some_failed)
         (record {
           bytes_before = S.left source.old;
           bytes_after = S.left source.new;
@@ -72,72 +92,76 @@ fn walk<S: Source, B: Bench>(alloc: Global, source: &mut S, bench: &B) -> Outcom
         result }
 {
     match read_all(alloc, source, INPUT_LIMIT) {
-        Ok(bytes) => walk_bytes(alloc, bytes.items(), bench),
+        Ok(bytes) => run_over(alloc, command, bytes.items(), bench),
         Err(ReadAllError::ReadFault) => Outcome::Refused(Refusal::ReadFault),
         Err(ReadAllError::TooLong) => Outcome::Refused(Refusal::TooLong),
         Err(ReadAllError::NoMemory) => Outcome::Refused(Refusal::NoMemory),
     }
 }
 
-fn walk_bytes<B: Bench>(alloc: Global, bytes: &[u8], bench: &B) -> Outcome
-    ensures { IsWalkOf
-        (λ ask answer. B.gives bench.now [] ask answer)
-        (λ ask fault. B.fails bench.now [] ask fault)
+fn run_over<B: Bench>(alloc: Global, command: Command, bytes: &[u8], bench: &B) -> Outcome
+    requires { IsBuilt command }
+    ensures { IsRunOf
+        (λ job text some_failed. IsReport
+        (λ artefacts ask answer. B.gives bench.now artefacts ask answer)
+        (λ artefacts ask fault. B.fails bench.now artefacts ask fault)
+        command
+        job
+        text
+        some_failed)
         bytes.now
         result }
 {
-    match found_in(alloc, bytes) {
-        Found::Job(first) => walk_first(alloc, &first, bench),
-        Found::NoFirstForm => Outcome::Refused(Refusal::Unbuilt),
-        Found::NoJson => Outcome::Refused(Refusal::NotJson),
-        Found::NoMemory => Outcome::Refused(Refusal::NoMemory),
-    }
-}
-
-/// What the bytes turned out to be.
-#[derive(Debug, Drop)]
-enum Found {
-    Job(FirstSession),
-    NoFirstForm,
-    NoJson,
-    NoMemory,
-}
-
-fn found_in(alloc: Global, bytes: &[u8]) -> Found
-    ensures { IsFoundIn bytes.now result }
-{
-    match Value::from_slice(alloc, bytes) {
-        Ok(tree) => match first_session(&tree) {
-            Some(first) => Found::Job(first),
-            None => Found::NoFirstForm,
-        },
-        Err(error) => {
-            if error.is_memory() {
-                Found::NoMemory
-            } else {
-                Found::NoJson
+    match job_of(alloc, bytes, false) {
+        Ok(job) => {
+            accepted_job_has_few_sessions();
+            match report_job(alloc, command, &job, bench) {
+                Ok(report) => Outcome::Reported(report),
+                Err(_) => Outcome::Refused(Refusal::NoMemory),
             }
         }
+        Err(error) => Outcome::Refused(refusal_for(error)),
     }
 }
 
-fn walk_first<B: Bench>(alloc: Global, first: &FirstSession, bench: &B) -> Outcome
-    requires { IsPlain (term first.now.phrase) }
-    ensures { IsWalkOn
-        (λ ask answer. B.gives bench.now [] ask answer)
-        (λ ask fault. B.fails bench.now [] ask fault)
-        (session first.now)
-        result }
+/// The refusal for that of a job.
+fn refusal_for(error: JobError) -> Refusal
+    ensures { IsRefusalFor error result }
 {
-    let Ok(record) = walk_rising(alloc, first, bench) else {
-        return Outcome::Refused(Refusal::NoMemory);
-    };
+    match error {
+        JobError::NoMemory => Refusal::NoMemory,
+        _ => Refusal::Job(error),
+    }
+}
+
+/// Says of each session of a job what the command says of it, in their order.
+fn report_job<B: Bench>(
+    alloc: Global,
+    command: Command,
+    job: &Job,
+    bench: &B,
+) -> Result<Report, NoMemory>
+    requires built { IsBuilt command }
+    requires checked { HasCheckedSessions job.now }
+    requires few { length job.now.sessions.items ≤ 256 }
+    ensures { IfOk result (λ report. IsReport
+        (λ artefacts ask answer. B.gives bench.now artefacts ask answer)
+        (λ artefacts ask fault. B.fails bench.now artefacts ask fault)
+        command
+        (job_view job.now)
+        report.text
+        report.some_failed) }
+{
     let mut text = Vec::new(alloc);
-    let Ok(()) = push_record(&mut text, 0, &record) else {
-        return Outcome::Refused(Refusal::NoMemory);
-    };
-    Outcome::Reported(Report {
+    let mut some_failed = false;
+    let mut number = 0;
+    for checked in job.sessions.as_slice() {
+        let did_fail = push_session(&mut text, number, command, job, checked, bench)?;
+        some_failed |= did_fail;
+        number += 1;
+    }
+    Ok(Report {
         text: Bytes::of(text),
-        some_failed: record.is_failed(),
+        some_failed,
     })
 }

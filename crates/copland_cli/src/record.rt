@@ -30,7 +30,7 @@ pub struct FailRecord {
 
 impl Record {
     ghost use Rattle.copland_cli.specs.Recorded.{recorded};
-    ghost use Rattle.copland_cli.specs.Outcome.{is_failed};
+    ghost use Rattle.copland_cli.specs.Reported.{is_failed};
 
     /// Whether the session failed.
     pub fn is_failed(&self) -> bool

@@ -1,5 +1,8 @@
 ghost use Rattle.std.specs.Prelude.{◌≡◌};
-ghost use Rattle.copland_cli.specs.Status.{code_of};
+ghost use Rattle.copland_cli.specs.Status.{code_of, job_status, status_of};
+
+use job_reader::JobError;
+use report_text::Refusal;
 
 /// How a run ended. Each has an exit status of its own number; several refusals share one.
 #[derive(Clone, Copy, Debug, PartialEq, Eq)]
@@ -69,5 +72,36 @@ impl Status {
             Status::NoMemory => 12,
             Status::Unbuilt => 13,
         }
+    }
+}
+
+/// How a run with this refusal ends.
+pub fn status_of(refusal: &Refusal) -> Status
+    ensures { result ≡ status_of refusal.now }
+{
+    match refusal {
+        Refusal::Words => Status::BadWords,
+        Refusal::ReadFault => Status::ReadFault,
+        Refusal::TooLong => Status::TooLong,
+        Refusal::Job(error) => job_status(error),
+        Refusal::NoMemory => Status::NoMemory,
+    }
+}
+
+fn job_status(error: &JobError) -> Status
+    ensures { result ≡ job_status error.now }
+{
+    match error {
+        JobError::NotJson => Status::NotJson,
+        JobError::BadJob { .. } => Status::BadJob,
+        JobError::RepeatedPlace { .. } => Status::RepeatedPlace,
+        JobError::RepeatedArtefact { .. } => Status::RepeatedArtefact,
+        JobError::RepeatedReference { .. } => Status::RepeatedReference,
+        JobError::BadRoot { .. } => Status::BadRoot,
+        JobError::RepeatedNonce { .. } => Status::RepeatedNonce,
+        JobError::BadPhrase { .. } => Status::BadPhrase,
+        JobError::Misplaced { .. } => Status::Misplaced,
+        JobError::Oversize { .. } => Status::Oversize,
+        JobError::NoMemory => Status::NoMemory,
     }
 }

@@ -1,7 +1,8 @@
 use crate::status::Status;
 use crate::top::plain_top;
-use bench_trait::DigestBench;
+use bench_trait::{Bench, BenchFault, DigestBench, TableBench, TableResult, TableRow};
 use byte_ports::{Behaviour, MemSink, MemSource};
+use evidence_types::Answer;
 use std::alloc::Global;
 use std::test::Fail;
 
@@ -23,14 +24,14 @@ const COPIED: &str =
 
 /// Ports of a run: the greatest size of a call, and the calls that fail.
 #[derive(Drop)]
-struct Ports<'a> {
+pub struct Ports<'a> {
     source_most: usize,
     source_failing: &'a [u64],
     sink_most: usize,
     sink_failing: &'a [u64],
 }
 
-const WHOLE: Ports<'static> = Ports {
+pub const WHOLE: Ports<'static> = Ports {
     source_most: 65536,
     source_failing: &NO_CALLS,
     sink_most: 65536,
@@ -38,12 +39,25 @@ const WHOLE: Ports<'static> = Ports {
 };
 
 /// Runs the program on the input, and checks its status and what it wrote.
-fn expect_run(
+pub fn expect_run(
     rt: &impl std::process::Abort,
     alloc: Global,
     words: &str,
     input: &[u8],
     ports: &Ports<'_>,
+    want: (Status, &str),
+) -> Result<(), Fail> {
+    expect_with(rt, alloc, words, input, ports, &DigestBench, want)
+}
+
+/// The same with this bench.
+fn expect_with<B: Bench>(
+    rt: &impl std::process::Abort,
+    alloc: Global,
+    words: &str,
+    input: &[u8],
+    ports: &Ports<'_>,
+    bench: &B,
     want: (Status, &str),
 ) -> Result<(), Fail> {
     let mut list = Vec::new(alloc);
@@ -59,10 +73,23 @@ fn expect_run(
     );
     let failing = Vec::from_slice(alloc, ports.sink_failing)?;
     let mut sink = MemSink::of(alloc, Behaviour::of(ports.sink_most.max(1), failing));
-    let status = plain_top(alloc, list.as_slice(), &mut source, &mut sink, &DigestBench);
+    let status = plain_top(alloc, list.as_slice(), &mut source, &mut sink, bench);
     assert_eq!(rt; status, want.0, "at the words {words}");
     assert_eq!(rt; sink.taken(), want.1.as_bytes(), "at the words {words}");
     Ok(())
+}
+
+/// A row of a bench for the nonce of `job_of`.
+fn row(event: u32, found: TableResult) -> TableRow {
+    TableRow {
+        nonce: [0, 1, 2, 3, 4, 5, 6, 7, 8, 9, 10, 11, 12, 13, 14, 15],
+        event,
+        outcome: found,
+    }
+}
+
+fn answer(rt: &impl std::process::Abort, bytes: &[u8]) -> TableResult {
+    TableResult::Answer(Answer::of(bytes).expect(rt, "a short answer"))
 }
 
 #[test]
@@ -83,56 +110,334 @@ fn words_are_told_apart(rt: HostRuntime) -> Result<(), Fail> {
         "load",
         "--help",
     ] {
-        expect_run(
-            &rt,
-            alloc,
-            words,
-            b"",
-            &WHOLE,
-            (Status::BadWords, "error: words\n"),
-        )?;
+        let want = (Status::BadWords, "error: words\n");
+        expect_run(&rt, alloc, words, b"", &WHOLE, want)?;
     }
-    for words in [
-        "check",
-        "shape",
-        "events",
-        "code",
-        "eval",
-        "appraise",
-        "walk 1",
-        "walk 4294967295",
-        "load 0",
-    ] {
-        expect_run(
-            &rt,
-            alloc,
-            words,
-            b"",
-            &WHOLE,
-            (Status::Unbuilt, "error: unbuilt\n"),
-        )?;
+    for words in ["appraise", "walk 1", "walk 4294967295", "load 0"] {
+        let want = (Status::Unbuilt, "error: unbuilt\n");
+        expect_run(&rt, alloc, words, b"", &WHOLE, want)?;
     }
     Ok(())
 }
 
-#[test]
-fn jobs_are_walked_or_refused(rt: HostRuntime) -> Result<(), Fail> {
-    let alloc = rt.alloc();
-    let copied = job_of(alloc, "CPY")?;
-    let sealed = job_of(alloc, "SIG")?;
-    let unbuilt = (Status::Unbuilt, "error: unbuilt\n");
-    let not_json = (Status::NotJson, "error: not json\n");
-    for (input, want) in [
-        (copied.as_bytes(), (Status::Good, COPIED)),
-        (sealed.as_bytes(), unbuilt),
-        (b"".as_slice(), not_json),
-        (b"{".as_slice(), not_json),
-        (b"[]".as_slice(), unbuilt),
-        (b"{\"sessions\":[]}".as_slice(), unbuilt),
-    ] {
-        expect_run(&rt, alloc, "walk 0", input, &WHOLE, want)?;
+/// Runs each of these words on the job of one session with the phrase.
+fn expect_all(
+    rt: &impl std::process::Abort,
+    alloc: Global,
+    phrase: &str,
+    table: &[(&str, Status, &str)],
+) -> Result<(), Fail> {
+    let job = job_of(alloc, phrase)?;
+    for (words, status, report) in table {
+        let want = (*status, *report);
+        expect_run(rt, alloc, words, job.as_bytes(), &WHOLE, want)?;
     }
     Ok(())
+}
+
+// The reports are worked rows of the formats; the seals and hashes were computed by Python's hmac and
+// hashlib.
+#[test]
+fn sessions_are_reported(rt: HostRuntime) -> Result<(), Fail> {
+    let alloc = rt.alloc();
+    expect_all(
+        &rt,
+        alloc,
+        "((USM scan))->SIG",
+        &[
+            (
+                "check",
+                Status::Good,
+                "session 0 ok events 2 weight 1085\nphrase USM scan -> SIG\n",
+            ),
+            (
+                "shape",
+                Status::Good,
+                "session 0 shape G(bank,1,U(bank,0,scan,N))\n",
+            ),
+            (
+                "eval",
+                Status::SomeFailed,
+                "session 0 failed 0 no-artefact\n",
+            ),
+            (
+                "walk 0",
+                Status::SomeFailed,
+                "session 0 failed 0 no-artefact\ntrace\n",
+            ),
+        ],
+    )?;
+    expect_all(
+        &rt,
+        alloc,
+        "@q [USM scan -> SIG]",
+        &[
+            ("events", Status::Good, ASKED_EVENTS),
+            ("code", Status::Good, ASKED_CODE),
+            (
+                "walk 0",
+                Status::SomeFailed,
+                "session 0 failed 1 no-artefact\ntrace 0\n",
+            ),
+        ],
+    )?;
+    expect_all(
+        &rt,
+        alloc,
+        "USM a +~- USM b",
+        &[
+            (
+                "shape",
+                Status::Good,
+                "session 0 shape P(U(bank,1,a,N),U(bank,2,b,E))\n",
+            ),
+            (
+                "code",
+                Status::Good,
+                "session 0 code\nblock root at bank\nfork 0 +-\nusm 1 a\njoinpar 3 0\nend\nblock 0 at bank\nusm 2 b\nend\n",
+            ),
+        ],
+    )?;
+    expect_all(
+        &rt,
+        alloc,
+        "(CPY +<+ CPY) -> HSH",
+        &[
+            (
+                "check",
+                Status::Good,
+                "session 0 ok events 5 weight 72\nphrase (CPY +<+ CPY) -> HSH\n",
+            ),
+            ("shape", Status::Good, "session 0 shape H(bank,4,S(N,N))\n"),
+            ("eval", Status::Good, HASHED),
+        ],
+    )
+}
+
+const ASKED_EVENTS: &str =
+    "session 0 events 4\nevent 0 req q at bank\nevent 1 usm scan at q after 0\nevent 2 sig at q after 1\nevent 3 rpl q at bank after 2\n";
+
+const ASKED_CODE: &str =
+    "session 0 code\nblock root at bank\nsend 0 q\nrecv 3 0\nend\nblock 0 at q\nusm 1 scan\nsign 2\nend\n";
+
+const HASHED: &str =
+    "session 0 done\nbundle 43504c4201000000250500000004eeb3e2ab6a60f3b47e374422806ba61f40312d27ba55f9b494ccdd9838f26a69\n";
+
+#[test]
+fn refusals_of_jobs_have_their_lines(rt: HostRuntime) -> Result<(), Fail> {
+    let alloc = rt.alloc();
+    for (phrase, want) in [
+        ("", (Status::BadPhrase, "error: phrase 0 0 expected\n")),
+        (
+            "CPY CPY",
+            (Status::BadPhrase, "error: phrase 0 4 trailing\n"),
+        ),
+        (
+            "CPY +<* CPY",
+            (Status::BadPhrase, "error: phrase 0 6 char\n"),
+        ),
+        ("USM Scan", (Status::BadPhrase, "error: phrase 0 4 word\n")),
+        (
+            "@q [USM a]",
+            (Status::Misplaced, "error: misplaced 0 1 not-offered\n"),
+        ),
+        (
+            "@q [@bank [CPY]]",
+            (Status::Misplaced, "error: misplaced 0 1 may-not-ask\n"),
+        ),
+        (
+            "@zz [CPY] -> USM x",
+            (Status::Misplaced, "error: misplaced 0 0 unknown-place\n"),
+        ),
+        (
+            "KIM bank scan",
+            (Status::Misplaced, "error: misplaced 0 0 may-not-see\n"),
+        ),
+    ] {
+        let job = job_of(alloc, phrase)?;
+        expect_run(&rt, alloc, "check", job.as_bytes(), &WHOLE, want)?;
+        expect_run(&rt, alloc, "walk 0", job.as_bytes(), &WHOLE, want)?;
+    }
+    for (input, want) in [
+        ("", (Status::NotJson, "error: not json\n")),
+        ("{", (Status::NotJson, "error: not json\n")),
+        ("[]", (Status::BadJob, "error: job $ wrong-kind\n")),
+        ("{}", (Status::BadJob, "error: job $.places missing\n")),
+        (
+            BAD_KEY,
+            (Status::BadJob, "error: job $.places[0].key bad-hex\n"),
+        ),
+        (
+            SHORT_KEY,
+            (Status::BadJob, "error: job $.places[0].key out-of-range\n"),
+        ),
+        (
+            BAD_ASK,
+            (Status::BadJob, "error: job $.places[0].asks[1] bad-name\n"),
+        ),
+        (BAD_ROOT, (Status::BadRoot, "error: bad root 0\n")),
+        (
+            STRAY,
+            (Status::BadJob, "error: job $.sessions[0] unknown\n"),
+        ),
+        (
+            SAME_NONCES,
+            (Status::RepeatedNonce, "error: repeated nonce 0 1\n"),
+        ),
+        (
+            SAME_PLACES,
+            (Status::RepeatedPlace, "error: repeated place 0 1\n"),
+        ),
+    ] {
+        expect_run(&rt, alloc, "check", input.as_bytes(), &WHOLE, want)?;
+        expect_run(&rt, alloc, "eval", input.as_bytes(), &WHOLE, want)?;
+    }
+    Ok(())
+}
+
+const BAD_KEY: &str = "{\"places\":[{\"name\":\"bank\",\"key\":\"0g\"}]}";
+
+const SHORT_KEY: &str = "{\"places\":[{\"name\":\"bank\",\"key\":\"00\"}]}";
+
+const BAD_ASK: &str =
+    "{\"places\":[{\"name\":\"bank\",\"key\":\"000102030405060708090a0b0c0d0e0f\",\"asks\":[\"q\",\"Q\"]}]}";
+
+const BAD_ROOT: &str =
+    "{\"places\":[{\"name\":\"bank\",\"key\":\"000102030405060708090a0b0c0d0e0f\"}],\"sessions\":[{\"root\":\"zz\",\"nonce\":\"000102030405060708090a0b0c0d0e0f\",\"phrase\":\"CPY\"}]}";
+
+const STRAY: &str =
+    "{\"places\":[{\"name\":\"bank\",\"key\":\"000102030405060708090a0b0c0d0e0f\"}],\"sessions\":[{\"root\":\"bank\",\"nonce\":\"000102030405060708090a0b0c0d0e0f\",\"phrase\":\"CPY\",\"x\":1}]}";
+
+const SAME_NONCES: &str =
+    "{\"places\":[{\"name\":\"bank\",\"key\":\"000102030405060708090a0b0c0d0e0f\"}],\"sessions\":[{\"root\":\"bank\",\"nonce\":\"000102030405060708090a0b0c0d0e0f\",\"phrase\":\"CPY\"},{\"root\":\"bank\",\"nonce\":\"000102030405060708090A0B0C0D0E0F\",\"phrase\":\"CPY\"}]}";
+
+const SAME_PLACES: &str =
+    "{\"places\":[{\"name\":\"q\",\"key\":\"000102030405060708090a0b0c0d0e0f\"},{\"name\":\"q\",\"key\":\"000102030405060708090a0b0c0d0e0f\"}],\"sessions\":[{\"root\":\"bank\",\"nonce\":\"000102030405060708090a0b0c0d0e0f\",\"phrase\":\"CPY\"}]}";
+
+// A chain of the most events, whose evidence nests deepest.
+#[test]
+fn the_longest_chain_is_reported(rt: HostRuntime) -> Result<(), Fail> {
+    let alloc = rt.alloc();
+    let mut phrase = String::from_str(alloc, "SIG")?;
+    for _ in 1u32..1024 {
+        phrase.push_str(" -> SIG")?;
+    }
+    let job = job_of(alloc, phrase.as_str())?;
+    let mut want = String::from_str(alloc, "session 0 ok events 1024 weight 37905\nphrase ")?;
+    want.push_str(phrase.as_str())?;
+    want.push_str("\n")?;
+    let good = (Status::Good, want.as_str());
+    expect_run(&rt, alloc, "check", job.as_bytes(), &WHOLE, good)?;
+    for words in ["shape", "events", "code", "eval", "walk 0"] {
+        expect_good(&rt, alloc, words, job.as_bytes())?;
+    }
+    Ok(())
+}
+
+/// Runs the program on the input, and checks its status alone.
+fn expect_good(
+    rt: &impl std::process::Abort,
+    alloc: Global,
+    words: &str,
+    input: &[u8],
+) -> Result<(), Fail> {
+    let mut list = Vec::new(alloc);
+    for word in words.split(' ') {
+        list.push(String::from_str(alloc, word)?)?;
+    }
+    let source_bytes = Vec::from_slice(alloc, input)?;
+    let mut source = MemSource::of(source_bytes, Behaviour::of(65536, Vec::new(alloc)));
+    let mut sink = MemSink::of(alloc, Behaviour::of(65536, Vec::new(alloc)));
+    let status = plain_top(alloc, list.as_slice(), &mut source, &mut sink, &DigestBench);
+    assert_eq!(rt; status, Status::Good, "at the words {words}");
+    Ok(())
+}
+
+#[test]
+fn answers_faults_and_want_of_memory_come_from_the_bench(rt: HostRuntime) -> Result<(), Fail> {
+    let alloc = rt.alloc();
+    let mut rows = Vec::new(alloc);
+    rows.push(row(0, answer(&rt, &[0xaa, 0xbb])))?;
+    rows.push(row(1, answer(&rt, &[0x11])))?;
+    rows.push(row(2, answer(&rt, &[0x22])))?;
+    let answering = TableBench::of(rows);
+    for (phrase, words, report) in [
+        (
+            "USM scan",
+            "walk 0",
+            "session 0 done\ntrace 0\nanswer 0 aabb\nbundle 43504c42010000001a02000000000002aabb01000102030405060708090a0b0c0d0e0f\n",
+        ),
+        (
+            "USM scan",
+            "eval",
+            "session 0 done\nanswer 0 aabb\nbundle 43504c42010000001a02000000000002aabb01000102030405060708090a0b0c0d0e0f\n",
+        ),
+        (
+            "USM a -> USM b",
+            "walk 0",
+            "session 0 done\ntrace 0 1\nanswer 0 aabb\nanswer 1 11\nbundle 43504c420100000022020000000100011102000000000002aabb01000102030405060708090a0b0c0d0e0f\n",
+        ),
+        (
+            "USM a +~- USM b",
+            "walk 0",
+            "session 0 done\ntrace 0 1 2 3\nanswer 1 11\nanswer 2 22\nbundle 43504c42010000002307020000000100011101000102030405060708090a0b0c0d0e0f020000000200012200\n",
+        ),
+        (
+            "USM a -<+ USM b",
+            "walk 0",
+            "session 0 done\ntrace 0 1 2 3\nanswer 1 11\nanswer 2 22\nbundle 43504c42010000002306020000000100011100020000000200012201000102030405060708090a0b0c0d0e0f\n",
+        ),
+        (
+            "((USM scan))->SIG",
+            "eval",
+            "session 0 done\nanswer 0 aabb\nbundle 43504c42010000003f0400000001bf3d4bf059e139949ebbf67a3cddf4cb9491800b555a0367c1f2ffe4ba66293102000000000002aabb01000102030405060708090a0b0c0d0e0f\n",
+        ),
+    ] {
+        let job = job_of(alloc, phrase)?;
+        let want = (Status::Good, report);
+        expect_with(&rt, alloc, words, job.as_bytes(), &WHOLE, &answering, want)?;
+    }
+    let mut rows = Vec::new(alloc);
+    rows.push(row(0, answer(&rt, &[])))?;
+    rows.push(row(1, TableResult::Fault(BenchFault::Broken(7))))?;
+    rows.push(row(2, answer(&rt, &[0x22])))?;
+    let failing = TableBench::of(rows);
+    let three = job_of(alloc, "USM a -> USM b -> USM a")?;
+    let want = (Status::SomeFailed, "session 0 failed 1 broken 7\ntrace 0\n");
+    expect_with(
+        &rt,
+        alloc,
+        "walk 0",
+        three.as_bytes(),
+        &WHOLE,
+        &failing,
+        want,
+    )?;
+    let parallel = job_of(alloc, "USM a +~- USM b")?;
+    let want = (Status::SomeFailed, "session 0 failed 1 broken 7\ntrace 0\n");
+    expect_with(
+        &rt,
+        alloc,
+        "walk 0",
+        parallel.as_bytes(),
+        &WHOLE,
+        &failing,
+        want,
+    )?;
+    let mut rows = Vec::new(alloc);
+    rows.push(row(0, TableResult::Starve))?;
+    let starving = TableBench::of(rows);
+    let scan = job_of(alloc, "USM scan")?;
+    let want = (Status::NoMemory, "error: no memory\n");
+    expect_with(
+        &rt,
+        alloc,
+        "walk 0",
+        scan.as_bytes(),
+        &WHOLE,
+        &starving,
+        want,
+    )
 }
 
 #[test]

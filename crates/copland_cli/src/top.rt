@@ -1,14 +1,16 @@
-ghost use Rattle.std.specs.Prelude.{◌≡◌, ◌↔◌, ℕ, List, [], Some};
+ghost use Rattle.std.specs.Prelude.{◌≡◌, ◌↔◌, ℕ, List, Some};
 ghost use Rattle.copland_cli.specs.Answer.{ComesAt, IsAnswer, IsUndisturbed, Told};
 ghost use Rattle.copland_cli.specs.Concluded.{IsConcluded};
-ghost use Rattle.copland_cli.specs.Finding.{Finding};
+ghost use Rattle.job_reader.specs.Finding.{Finding};
 ghost use Rattle.copland_cli.specs.Run.{IsBadWords, IsBuilt, IsTooLong};
-ghost use Rattle.copland_cli.specs.Words.{texts};
+ghost use Rattle.copland_cli.specs.Words.{Spells, texts};
+ghost use Rattle.copland_cli.specs.declared.words.Command.{Command};
 
 use crate::outcome::{Outcome, decide};
-use crate::status::Status;
+use crate::status::{Status, status_of};
 use bench_trait::Bench;
 use byte_ports::{Sink, Source, write_all_of};
+use report_text::refusal_line;
 use std::alloc::Global;
 
 /// Carries out a command on one thread: reads the job from the source, and writes one report, or the
@@ -23,8 +25,8 @@ pub fn plain_top<S: Source, K: Sink, B: Bench>(
 ) -> Status
     // The cause of each answer, and what was written.
     ensures answer { IsAnswer
-        (λ ask answer. B.gives bench.now [] ask answer)
-        (λ ask fault. B.fails bench.now [] ask fault)
+        (λ artefacts ask answer. B.gives bench.now artefacts ask answer)
+        (λ artefacts ask fault. B.fails bench.now artefacts ask fault)
         (texts words.now)
         (record {
           bytes_before = S.left source.old;
@@ -43,8 +45,9 @@ pub fn plain_top<S: Source, K: Sink, B: Bench>(
     // Bad words are told apart from all else, whatever the ports do.
     ensures bad_words { (result ≡ Status.BadWords) ↔ IsBadWords (texts words.now) }
 
-    // Where nothing else went wrong, each answer comes exactly at its kind of job.
-    ensures exact { (finding : Finding) → IsBuilt (texts words.now)
+    // Where nothing else went wrong, each refusal of a job comes exactly where the bytes call for it.
+    ensures exact { (finding : Finding) (command : Command) → Spells (texts words.now) command
+        → IsBuilt command
         → Told
         (record {
           bytes_before = S.left source.old;
@@ -70,7 +73,9 @@ pub fn plain_top<S: Source, K: Sink, B: Bench>(
         → ComesAt finding result }
 
     // A source that tells its bytes gave too many of them exactly where the answer says so.
-    ensures too_long { (left : List ℕ) → IsBuilt (texts words.now) → S.left source.old ≡ Some left
+    ensures too_long { (left : List ℕ) (command : Command) → Spells (texts words.now) command
+        → IsBuilt command
+        → S.left source.old ≡ Some left
         → ((result ≡ Status.TooLong) ↔ IsTooLong
         (record {
           bytes_before = S.left source.old;
@@ -97,8 +102,13 @@ pub fn conclude<K: Sink>(sink: &mut K, outcome: &Outcome) -> Status
 {
     match outcome {
         Outcome::Refused(refusal) => {
-            let _ = write_all_of(sink, refusal.line());
-            refusal.status()
+            let line = refusal_line(refusal);
+            let _ = write_all_of(sink, line.bytes());
+            status_of(refusal)
+        }
+        Outcome::Unbuilt => {
+            let _ = write_all_of(sink, b"error: unbuilt\n");
+            Status::Unbuilt
         }
         Outcome::Reported(report) => match write_all_of(sink, report.text.items()) {
             Ok(()) => {

@@ -1,49 +1,90 @@
-ghost use Rattle.std.specs.Prelude.{◌≡◌, ℕ, List, IfOk, []};
+ghost use Rattle.std.specs.Prelude.{◌≡◌, IfOk};
 ghost use Rattle.phrase_tree.specs.Term.{term};
-ghost use Rattle.copland_cli.specs.FirstForm.{IsPlain};
-ghost use Rattle.evidence_types.specs.Evidence.{nonce as nonce_alone};
-ghost use Rattle.evidence_types.specs.Bytes.{bundle};
-ghost use Rattle.session_model.specs.Record.{IsRisingRecord};
-ghost use Rattle.copland_cli.specs.FirstSession.{session};
-ghost use Rattle.copland_cli.specs.Recorded.{recorded};
+ghost use Rattle.place_check.specs.Session.{session_of};
+ghost use Rattle.plain_eval.specs.Keyed.{HasKeys};
+ghost use Rattle.session_model.specs.Record.{IsRisingRecord, numbers_below};
+ghost use Rattle.copland_cli.specs.Recorded.{done_with, failed_at, recorded};
 
-use crate::first_form::FirstSession;
-use crate::record::{DoneRecord, Record};
-use bench_trait::Bench;
-use byte_ports::Bytes;
+use crate::record::{DoneRecord, FailRecord, Record};
+use bench_trait::{ArtefactBook, Bench, BenchFault};
+use evidence_codec::encode;
 use evidence_types::Answers;
 use phrase_tree::{NoMemory, Trace};
+use place_check::Checked;
+use plain_eval::{Gathered, eval, gather};
+use seal_hmac::KeyRing;
 use std::alloc::Global;
 
-/// Walks one session to its end, its events in the order of their numbers.
+/// Walks one session to its end on one thread: asks its questions in the order of their events, and
+/// evaluates its phrase. It takes one walk over the phrase for each, and time in the bytes of the value
+/// and of what is sealed and hashed.
 pub fn walk_rising<B: Bench>(
     alloc: Global,
-    first: &FirstSession,
+    checked: &Checked,
+    keys: &KeyRing,
+    artefacts: &ArtefactBook,
     bench: &B,
 ) -> Result<Record, NoMemory>
-    requires { IsPlain (term first.now.phrase) }
-    ensures { (keys : List (List ℕ × List ℕ)) → IfOk result (λ record'. IsRisingRecord
-        (λ ask answer. B.gives bench.now [] ask answer)
-        (λ ask fault. B.fails bench.now [] ask fault)
-        (session first.now)
-        keys
+    requires { HasKeys (term checked.now.phrase) checked.now.root keys.now }
+    ensures { IfOk result (λ record'. IsRisingRecord
+        (λ ask answer. B.gives bench.now artefacts.now ask answer)
+        (λ ask fault. B.fails bench.now artefacts.now ask fault)
+        (session_of checked.now)
+        keys.now
         (recorded record')) }
 {
-    let mut events = Vec::new(alloc);
-    events.push(0)?;
-    let bundle = nonce_bundle(alloc, &first.nonce)?;
+    match gather(alloc, checked, artefacts, bench) {
+        Ok(Gathered::All(answers)) => done(alloc, checked, keys, answers),
+        Ok(Gathered::Failed { event, fault }) => failed(alloc, event, fault),
+        Err(_) => Err(NoMemory),
+    }
+}
+
+fn done(
+    alloc: Global,
+    checked: &Checked,
+    keys: &KeyRing,
+    answers: Answers,
+) -> Result<Record, NoMemory>
+    requires { HasKeys (term checked.now.phrase) checked.now.root keys.now }
+    ensures { IfOk result (λ record'. recorded record' ≡ done_with (session_of checked.now) keys.now answers) }
+{
+    let phrase = checked.phrase();
+    let value = eval(
+        alloc,
+        phrase,
+        checked.root(),
+        checked.nonce(),
+        &answers,
+        keys,
+    )?;
+    let bundle = encode(alloc, &value)?;
+    let trace = rising(alloc, phrase.events())?;
     Ok(Record::Done(DoneRecord {
-        trace: Trace::of(events),
-        answers: Answers::of(Vec::new(alloc)),
+        trace,
+        answers,
         bundle,
     }))
 }
 
-/// The bundle of a nonce alone.
-fn nonce_bundle(alloc: Global, nonce: &[u8; 16]) -> Result<Bytes, NoMemory>
-    ensures { IfOk result (λ bytes. bytes ≡ bundle (nonce_alone nonce.now)) }
+fn failed(alloc: Global, event: u32, fault: BenchFault) -> Result<Record, NoMemory>
+    ensures { IfOk result (λ record'. recorded record' ≡ failed_at event fault) }
 {
-    let mut bytes = Vec::from_slice(alloc, b"CPLB\x01\x00\x00\x00\x11\x01")?;
-    bytes.extend_from_slice(nonce)?;
-    Ok(Bytes::of(bytes))
+    let trace = rising(alloc, event)?;
+    Ok(Record::Failed(FailRecord {
+        event,
+        fault,
+        trace,
+    }))
+}
+
+/// The numbers below one, rising.
+fn rising(alloc: Global, count: u32) -> Result<Trace, NoMemory>
+    ensures { IfOk result (λ trace. trace ≡ numbers_below count) }
+{
+    let mut numbers = Vec::with_capacity(alloc, count as usize)?;
+    for number in 0..count {
+        numbers.push(number)?;
+    }
+    Ok(Trace::of(numbers))
 }

@@ -10,5 +10,6 @@ pub mod RefusalLemmas
 pub mod FindingLemmas
 pub mod AnswerLemmas
 pub mod AskLemmas
+pub mod SmallLemmas
 mod WorkedForm
 pub mod FaultLemmas

@@ -1,4 +1,4 @@
-ghost use Rattle.std.specs.Prelude.{◌≡◌, ℕ, Some, slice_get};
+ghost use Rattle.std.specs.Prelude.{◌≡◌, ◌≤◌, ℕ, Bool, List, Some, length, slice_get};
 ghost use Rattle.session_model.specs.Session.{Session};
 ghost use Rattle.std.specs.Result.{result_err};
 ghost use Rattle.serde_json.specs.Data.{Data};
@@ -22,4 +22,9 @@ pub fn one_finding(_bytes: &[u8], _appraise: bool)
 /// question of the other. It does nothing.
 pub fn sessions_ask_apart(_bytes: &[u8], _appraise: bool)
     ensures { (job : JobView) (one two : ℕ) (session other : Session) → IsAccepted _bytes.now _appraise job → slice_get job.sessions one ≡ Some session → slice_get job.sessions two ≡ Some other → ¬ (one ≡ two) → ¬ (session.nonce ≡ other.nonce) × AskApart session other }
+{}
+
+/// A law: an accepted job has at most 256 sessions. It does nothing.
+pub fn accepted_job_has_few_sessions()
+    ensures { (bytes : List ℕ) (appraise : Bool) (job : JobView) → IsAccepted bytes appraise job → length job.sessions ≤ 256 }
 {}

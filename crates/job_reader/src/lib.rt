@@ -28,6 +28,8 @@ mod whole;
 mod written;
 
 pub use accepted::{BundleIn, Job};
-pub use laws::{one_finding, sessions_ask_apart, walk_stops_at_the_first_fault};
+pub use laws::{
+    accepted_job_has_few_sessions, one_finding, sessions_ask_apart, walk_stops_at_the_first_fault,
+};
 pub use reading::job_of;
 pub use refusal::JobError;

@@ -9,4 +9,11 @@ pub mod Verdicts
 pub mod Lexing
 pub mod Progress
 pub mod Enclosed
+pub mod Readings
+pub mod Outcomes
+pub mod WordTokens
+pub mod Pieces
+pub mod CanonicalTokens
+pub mod Limits
+pub mod RoundTrip
 mod Rows

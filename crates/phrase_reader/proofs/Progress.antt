@@ -42,14 +42,14 @@ front_of [] (first ∷ (second ∷ more)) back token e = absurd (front_short tok
 front_of (head ∷ before) (first ∷ front) back token e =
     front_on head first before front token (list_head head first (before ++ token ∷ []) (front ++ back) e) (front_of before front back token (list_tail head first (before ++ token ∷ []) (front ++ back) e))
 
-within_next : (before : List Token) (token : Token) (next : State) → Reached (before ++ token ∷ []) next → height next ≤ 64 → Within 64 0 before → Within 64 0 (before ++ token ∷ [])
+pub within_next : (before : List Token) (token : Token) (next : State) → Reached (before ++ token ∷ []) next → height next ≤ 64 → Within 64 0 before → Within 64 0 (before ++ token ∷ [])
 within_next before token next r low w front back e = by (front_of before front back token e)
   where
     by : (front ≡ before ++ token ∷ []) ⊎ ((rest : List Token) × (before ≡ front ++ rest)) → 0 + opened_in front ≤ 64 + closed_in front
     by (inl whole) = omega (arith, low, ap opened_in whole, ap closed_in whole, run_height (before ++ token ∷ []) start next r.runs)
     by (inr more) = w front more.0 more.1
 
-within_height : (before : List Token) (state : State) → Reached before state → Within 64 0 before → height state ≤ 64
+pub within_height : (before : List Token) (state : State) → Reached before state → Within 64 0 before → height state ≤ 64
 within_height before state r w =
     omega (arith, w before [] (sym (append-nil before)), run_height before start state r.runs)
 
@@ -68,7 +68,7 @@ nothing_open : (front back : List Token) → [] ≡ front ++ back → 0 + opened
 nothing_open [] back e = omega arith
 nothing_open (first ∷ rest) back e = cc
 
-within_none : Within 64 0 []
+pub within_none : Within 64 0 []
 within_none front back e = nothing_open front back e
 
 pub progress_start : (text : List ℕ) (state : State) → state ≡ start → Progress text 0 state 0
@@ -84,7 +84,7 @@ progress_start text state e = record {
 }
 
 -- a token with no verdict breaks no rule
-breaks_none : (before : List Token) (state : State) (events : ℕ) (token : Token) (place : ℕ) → Reached before state → events ≡ events_in before → verdict state events token ≡ None → BreaksNone before (token_at place token)
+pub breaks_none : (before : List Token) (state : State) (events : ℕ) (token : Token) (place : ℕ) → Reached before state → events ≡ events_in before → verdict state events token ≡ None → BreaksNone before (token_at place token)
 breaks_none before state events token place r c v p k b =
     let e : None ≡ Some k = sym v ∙ (ap (λ n. verdict state n token) c ∙ rule_verdict before state token k r b.1) in
     cc
@@ -93,7 +93,7 @@ none_limited : (o : Option Kind) (events : ℕ) → limited o events ≡ None �
 none_limited None events h = refl
 none_limited (Some kind) events h = cc
 
-no_limit : (state : State) (events : ℕ) (token : Token) (next : State) → step state token ≡ Some next → verdict state events token ≡ None → limit state token ≡ None
+pub no_limit : (state : State) (events : ℕ) (token : Token) (next : State) → step state token ≡ Some next → verdict state events token ≡ None → limit state token ≡ None
 no_limit state events token next h v =
     none_limited (limit state token) (events + token_events token) (sym (verdict_fits state events token next h) ∙ v)
 

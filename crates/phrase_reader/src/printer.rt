@@ -3,6 +3,7 @@ ghost use Rattle.phrase_tree.specs.Name.{IsName};
 ghost use Rattle.phrase_tree.specs.Term.{term, is_branch, is_chain};
 ghost use Rattle.phrase_tree.specs.Numbering.{IsSized};
 ghost use Rattle.phrase_reader.specs.Canonical.{arg_text, args_text, asp_text, sign, order, op_text, canonical, IsArg, AreArgs, IsAsp, IsWritable};
+ghost use Rattle.phrase_reader.specs.Refusal.{IsRead};
 ghost use Rattle.phrase_reader.specs.Printing.{opening, closing, is_leaf};
 
 use byte_ports::Bytes;
@@ -205,10 +206,13 @@ fn push_phrase(text: &mut Vec<u8>, phrase: &Phrase) -> Result<(), NoMemory>
     }
 }
 
-/// The canonical text of a phrase, in time linear in that text. An error is want of memory.
+/// The canonical text of a phrase, in time linear in that text. An error is want of memory. Where the
+/// text has at most 65,536 bytes, it is read as that phrase again.
+#[tactic(auto, using(crate::proofs::RoundTrip::round_trip))]
 pub fn print(alloc: Global, phrase: &Phrase) -> Result<Bytes, NoMemory>
     requires { IsSized (term phrase.now) }
-    ensures { IfOk result (λ text. text ≡ canonical (term phrase.now)) }
+    ensures text { IfOk result (λ text. text ≡ canonical (term phrase.now)) }
+    ensures again { IfOk result (λ text. length text ≤ 65536 → IsRead text (term phrase.now)) }
 {
     let mut text = Vec::new(alloc);
     push_phrase(&mut text, phrase)?;

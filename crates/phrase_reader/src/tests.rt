@@ -107,6 +107,8 @@ fn a_phrase_is_printed_in_its_canonical_text(rt: HostRuntime) -> Result<(), Fail
         let phrase = read(rt.alloc(), text)?;
         let printed = print(rt.alloc(), &phrase)?;
         assert_eq!(rt; printed.items(), canonical.as_bytes(), "{text}");
+        let again = print(rt.alloc(), &read(rt.alloc(), canonical)?)?;
+        assert_eq!(rt; again.items(), canonical.as_bytes(), "{canonical}");
     }
     Ok(())
 }

@@ -1,1 +1,7 @@
 pub mod KeyLemmas
+pub mod GatherLemmas
+pub mod AnswerLemmas
+pub mod BundleLemmas
+pub mod FixedLemmas
+pub mod RightLemmas
+mod WorkedRecords

@@ -8,18 +8,24 @@ use evidence_types::{Answer, Value};
 use phrase_tree::Place;
 use seal_hmac::{Digester, Key};
 
+// What stands before the parts of a value is fed at once: an update costs time of its own.
+
+/// Feeds a tag and the number of an event.
 fn feed_event(digester: &mut Digester, tag: u8, event: u32)
     ensures { (kind : Kind) (fed : List ℕ) → Digests kind fed digester.old → Digests kind (fed ++ tag ∷ be32 event) digester.new }
 {
-    digester.update(&[tag]);
-    digester.update(&event.to_be_bytes());
+    let [first, second, third, fourth] = event.to_be_bytes();
+    digester.update(&[tag, first, second, third, fourth]);
 }
 
-fn feed_answer(digester: &mut Digester, answer: &Answer)
-    ensures { (kind : Kind) (fed : List ℕ) → Digests kind fed digester.old → Digests kind (fed ++ (be16 (length answer.now) ++ answer.now)) digester.new }
+/// Feeds a tag, the number of an event, the length of an answer, and the answer.
+fn feed_answer(digester: &mut Digester, tag: u8, event: u32, answer: &Answer)
+    ensures { (kind : Kind) (fed : List ℕ) → Digests kind fed digester.old → Digests kind (fed ++ tag ∷ (be32 event ++ (be16 (length answer.now) ++ answer.now))) digester.new }
 {
     let bytes = answer.bytes();
-    digester.update(&(bytes.len() as u16).to_be_bytes());
+    let [first, second, third, fourth] = event.to_be_bytes();
+    let [high, low] = (bytes.len() as u16).to_be_bytes();
+    digester.update(&[tag, first, second, third, fourth, high, low]);
     digester.update(bytes);
 }
 
@@ -34,13 +40,11 @@ fn feed(digester: &mut Digester, value: &Value)
             digester.update(nonce);
         }
         Value::Usm(event, answer, under) => {
-            feed_event(digester, 2, *event);
-            feed_answer(digester, answer);
+            feed_answer(digester, 2, *event, answer);
             feed(digester, under);
         }
         Value::Kim(event, answer, under) => {
-            feed_event(digester, 3, *event);
-            feed_answer(digester, answer);
+            feed_answer(digester, 3, *event, answer);
             feed(digester, under);
         }
         Value::Seal(event, seal, under) => {

@@ -1,13 +1,16 @@
 ghost use Rattle.std.specs.Prelude.{◌≡◌, ◌+◌, ◌^◌, ◌<◌, IfOk, IsSome};
 ghost use Rattle.phrase_tree.specs.Term.{term};
 ghost use Rattle.phrase_tree.specs.Numbering.{event_count, IsSized};
-ghost use Rattle.evidence_types.specs.Answers.{answer_at};
-ghost use Rattle.evidence_types.specs.Bytes.{encoding};
+ghost use Rattle.evidence_types.specs.Answer.{FitsAnswer};
+ghost use Rattle.evidence_types.specs.Answers.{IsRising, answer_at};
+ghost use Rattle.evidence_types.specs.Bytes.{FitsBundle, encoding};
 ghost use Rattle.evidence_types.specs.Evidence.{evidence, usm as measured, kim as measured_at, seal, hash};
+ghost use Rattle.evidence_types.specs.Weight.{IsLight};
 ghost use Rattle.seal_hmac.specs.Keys.{key_of, key_at};
 ghost use Rattle.seal_hmac.specs.Seal.{seal_of, hash_of};
 ghost use Rattle.session_model.specs.Value.{Makings, part, value_of, session_value};
 ghost use Rattle.plain_eval.specs.Keyed.{HasKeys};
+ghost use Rattle.plain_eval.specs.Short.{HasShortAnswers};
 ghost use Rattle.plain_eval.specs.Evaluating.{makings};
 
 use crate::copying::copy;
@@ -33,16 +36,34 @@ struct Made {
     next: u32,
 }
 
-/// The answer of an event; an empty one where there is none.
+/// The answer of an event; an empty one where there is none. It looks in one half of the pairs at
+/// each step, since their events rise.
+#[tactic(auto, using(crate::proofs::AnswerLemmas::rising_take, crate::proofs::AnswerLemmas::rising_drop, crate::proofs::AnswerLemmas::fewer))]
 fn answer_of(pairs: &[(u32, Answer)], event: u32) -> Answer
-    ensures { result ≡ answer_at pairs.now event }
+    requires { IsRising pairs.now }
+    ensures answer { result ≡ answer_at pairs.now event }
+    ensures few { FitsAnswer result }
 {
-    for pair in pairs {
-        if pair.0 == event {
-            return pair.1.copy();
-        }
+    let middle = pairs.len() / 2;
+    let Some(pair) = pairs.get(middle) else {
+        return copied(&[]);
+    };
+    if pair.0 == event {
+        return copied(pair.1.bytes());
     }
-    Answer::of(&[]).unwrap()
+    if event < pair.0 {
+        return answer_of(&pairs[..middle], event);
+    }
+    answer_of(&pairs[middle + 1..], event)
+}
+
+/// An answer with these bytes.
+fn copied(bytes: &[u8]) -> Answer
+    requires { FitsAnswer bytes.now }
+    ensures answer { result ≡ bytes.now }
+    ensures few { FitsAnswer result }
+{
+    Answer::of(bytes).unwrap()
 }
 
 /// What the two arms of a branch get of the evidence before it.
@@ -106,7 +127,8 @@ fn usm(
     event: u32,
     before: Box<Value>,
 ) -> Result<Box<Value>, NoMemory>
-    ensures { IfOk result (λ made. evidence made.value ≡ measured event (answer_at from.now.answers.now event) (evidence before.value)) }
+    ensures value { IfOk result (λ made. evidence made.value ≡ measured event (answer_at from.now.answers.now event) (evidence before.value)) }
+    ensures short { FitsAnswer (answer_at from.now.answers.now event) }
 {
     let answer = answer_of(from.answers.items(), event);
     nodes::usm(alloc, event, &answer, before)
@@ -118,13 +140,15 @@ fn kim(
     event: u32,
     before: Box<Value>,
 ) -> Result<Box<Value>, NoMemory>
-    ensures { IfOk result (λ made. evidence made.value ≡ measured_at event (answer_at from.now.answers.now event) (evidence before.value)) }
+    ensures value { IfOk result (λ made. evidence made.value ≡ measured_at event (answer_at from.now.answers.now event) (evidence before.value)) }
+    ensures short { FitsAnswer (answer_at from.now.answers.now event) }
 {
     let answer = answer_of(from.answers.items(), event);
     nodes::kim(alloc, event, &answer, before)
 }
 
 /// The value of a phrase that a place runs from a number on, on the evidence before it.
+#[cycle(evaluation)]
 fn value_of(
     alloc: Global,
     from: &Materials<'_>,
@@ -137,6 +161,7 @@ fn value_of(
     requires keys { HasKeys (term phrase.now) place from.now.keys.now }
     ensures value { IfOk result (λ made. evidence made.value.value ≡ value_of (term phrase.now) place first (evidence before.value) (makings from.now)) }
     ensures next { IfOk result (λ made. made.next ≡ first + event_count (term phrase.now)) }
+    ensures short { IfOk result (λ made. HasShortAnswers (term phrase.now) first from.now.answers.now) }
 {
     match phrase {
         Phrase::Cpy => Ok(Made {
@@ -179,7 +204,7 @@ fn value_of(
             })
         }
         Phrase::Then(left, right) => {
-            let made = value_of(alloc, from, left, place, first, before)?;
+            let made = chained(alloc, from, left, place, first, before)?;
             value_of(alloc, from, right, place, made.next, made.value)
         }
         Phrase::Seq(split, left, right) => {
@@ -205,6 +230,32 @@ fn value_of(
     }
 }
 
+/// The same, in a frame of its own that is small: a chain nests as deep as it is long, while all other
+/// nesting is of brackets, of which few are open.
+#[cycle(evaluation)]
+fn chained(
+    alloc: Global,
+    from: &Materials<'_>,
+    phrase: &Phrase,
+    place: Place,
+    first: u32,
+    before: Box<Value>,
+) -> Result<Made, NoMemory>
+    requires few { first + event_count (term phrase.now) < 2 ^ 32 }
+    requires keys { HasKeys (term phrase.now) place from.now.keys.now }
+    ensures value { IfOk result (λ made. evidence made.value.value ≡ value_of (term phrase.now) place first (evidence before.value) (makings from.now)) }
+    ensures next { IfOk result (λ made. made.next ≡ first + event_count (term phrase.now)) }
+    ensures short { IfOk result (λ made. HasShortAnswers (term phrase.now) first from.now.answers.now) }
+{
+    match phrase {
+        Phrase::Then(left, right) => {
+            let made = chained(alloc, from, left, place, first, before)?;
+            value_of(alloc, from, right, place, made.next, made.value)
+        }
+        _ => value_of(alloc, from, phrase, place, first, before),
+    }
+}
+
 /// The value of a session's phrase, which starts at a place with the number 0 and on the nonce, for
 /// these answers and keys (POST 2019, the evidence of a phrase). It evaluates by recursion on one
 /// thread. Each seal and each hash costs time in the bytes of the value under it, which are not
@@ -219,7 +270,9 @@ pub fn eval(
 ) -> Result<Value, NoMemory>
     requires sized { IsSized (term phrase.now) }
     requires keys { HasKeys (term phrase.now) place keys.now }
-    ensures { IfOk result (λ value. evidence value ≡ session_value (term phrase.now) place (record { nonce = nonce.now; answers = answers.now; keys = keys.now })) }
+    ensures value { IfOk result (λ value. evidence value ≡ session_value (term phrase.now) place (record { nonce = nonce.now; answers = answers.now; keys = keys.now })) }
+    // So the value of a phrase that is nowhere oversize can be written as a bundle.
+    ensures fits { IsLight (term phrase.now) → IfOk result (λ value. FitsBundle (evidence value)) }
 {
     let before = nodes::nonce(alloc, nonce)?;
     let from = Materials {

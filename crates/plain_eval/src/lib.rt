@@ -8,10 +8,21 @@
 mod copying;
 mod digesting;
 mod evaluating;
+mod fixed;
+#[cfg(test)]
+mod gather_tests;
+mod gathering;
 mod laws;
 mod nodes;
+mod right;
 #[cfg(test)]
 mod tests;
 
 pub use evaluating::eval;
-pub use laws::events_have_the_keys_of_seals;
+pub use fixed::{
+    digests_are_fixed, digests_make_one_record, done_where_artefacts_are_there,
+    fixed_bench_makes_one_record, nonces_keep_questions_apart,
+};
+pub use gathering::{Gathered, gather, gather_session};
+pub use laws::{events_have_the_keys_of_seals, value_fits_bundle};
+pub use right::rising_records_are_right;

@@ -14,38 +14,43 @@ use std::process::Abort;
 use std::test::Fail;
 
 /// The nonce of every session here, and the key of its place.
-const COUNTED: [u8; 16] = [0, 1, 2, 3, 4, 5, 6, 7, 8, 9, 10, 11, 12, 13, 14, 15];
+pub(crate) const COUNTED: [u8; 16] = [0, 1, 2, 3, 4, 5, 6, 7, 8, 9, 10, 11, 12, 13, 14, 15];
 
-fn name(rt: &impl Abort, text: &str) -> Name {
+pub(crate) fn name(rt: &impl Abort, text: &str) -> Name {
     Name::read(text).expect(rt, "a name")
 }
 
-fn answer(rt: &impl Abort, bytes: &[u8]) -> Answer {
+pub(crate) fn answer(rt: &impl Abort, bytes: &[u8]) -> Answer {
     Answer::of(bytes).expect(rt, "an answer")
 }
 
-fn asp(rt: &impl Abort, text: &str) -> Asp {
+pub(crate) fn asp(rt: &impl Abort, text: &str) -> Asp {
     Asp {
         name: name(rt, text),
         args: Args::none(),
     }
 }
 
-fn then(alloc: Global, left: Phrase, right: Phrase) -> Result<Phrase, NoMemory>
+pub(crate) fn then(alloc: Global, left: Phrase, right: Phrase) -> Result<Phrase, NoMemory>
     ensures { IfOk result (λ phrase. term phrase ≡ chain (term left) (term right)) }
 {
     Ok(Phrase::Then(Box::new(alloc, left)?, Box::new(alloc, right)?))
 }
 
 /// `USM scan -> SIG`.
-fn sealed(rt: &impl Abort, alloc: Global) -> Result<Phrase, NoMemory>
+pub(crate) fn sealed(rt: &impl Abort, alloc: Global) -> Result<Phrase, NoMemory>
     ensures sized { IfOk result (λ phrase. IsSized (term phrase)) }
     ensures keys { (place : List ℕ) (keys : List (List ℕ × List ℕ)) → IsSome (key_of keys place) → IfOk result (λ phrase. HasKeys (term phrase) place keys) }
 {
     then(alloc, Phrase::Usm(asp(rt, "scan")), Phrase::Sig)
 }
 
-fn in_sequence(alloc: Global, split: Split, left: Phrase, right: Phrase) -> Result<Phrase, NoMemory>
+pub(crate) fn in_sequence(
+    alloc: Global,
+    split: Split,
+    left: Phrase,
+    right: Phrase,
+) -> Result<Phrase, NoMemory>
     ensures { IfOk result (λ phrase. term phrase ≡ seq split (term left) (term right)) }
 {
     Ok(Phrase::Seq(split, Box::new(alloc, left)?, Box::new(alloc, right)?))
@@ -58,7 +63,7 @@ fn in_parallel(alloc: Global, split: Split, left: Phrase, right: Phrase) -> Resu
 }
 
 /// `USM a +~- USM b`.
-fn paired(rt: &impl Abort, alloc: Global) -> Result<Phrase, NoMemory>
+pub(crate) fn paired(rt: &impl Abort, alloc: Global) -> Result<Phrase, NoMemory>
     ensures sized { IfOk result (λ phrase. IsSized (term phrase)) }
     ensures keys { (place : List ℕ) (keys : List (List ℕ × List ℕ)) → IfOk result (λ phrase. HasKeys (term phrase) place keys) }
 {
@@ -75,7 +80,7 @@ fn paired(rt: &impl Abort, alloc: Global) -> Result<Phrase, NoMemory>
 }
 
 /// `(CPY +<+ CPY) -> HSH`.
-fn hashed(alloc: Global) -> Result<Phrase, NoMemory>
+pub(crate) fn hashed(alloc: Global) -> Result<Phrase, NoMemory>
     ensures sized { IfOk result (λ phrase. IsSized (term phrase)) }
     ensures keys { (place : List ℕ) (keys : List (List ℕ × List ℕ)) → IfOk result (λ phrase. HasKeys (term phrase) place keys) }
 {

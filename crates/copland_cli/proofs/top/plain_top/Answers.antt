@@ -1,5 +1,4 @@
 -- The clauses from what was decided and what was concluded.
-use Rattle.std.proofs.Common.{[]}
 use Rattle.copland_cli.specs.Run.{Port}
 use Rattle.copland_cli.specs.Words.{texts}
 use Rattle.copland_cli.proofs.AnswerLemmas.{answers, bad_words, exact, too_long}
@@ -19,7 +18,7 @@ returns-clause-answer g c =
       faults_before = g.K.Sink.faults c.args.sink.now;
       faults_after = g.K.Sink.faults c.conclude.new.sink;
     } in
-    answers (λ ask answer. g.B.Bench.gives c.args.bench.now [] ask answer) (λ ask fault. g.B.Bench.fails c.args.bench.now [] ask fault) (texts c.args.words.now) source sink c.decide-outcome.result c.conclude.result c.decide-outcome.ensures c.conclude.ensures
+    answers (λ artefacts ask answer. g.B.Bench.gives c.args.bench.now artefacts ask answer) (λ artefacts ask fault. g.B.Bench.fails c.args.bench.now artefacts ask fault) (texts c.args.words.now) source sink c.decide-outcome.result c.conclude.result c.decide-outcome.ensures c.conclude.ensures
 
 pub returns-clause-bad_words : goal.returns-clause-bad_words
 returns-clause-bad_words g c =
@@ -35,8 +34,8 @@ returns-clause-bad_words g c =
       faults_before = g.K.Sink.faults c.args.sink.now;
       faults_after = g.K.Sink.faults c.conclude.new.sink;
     } in (
-      bad_words (λ ask answer. g.B.Bench.gives c.args.bench.now [] ask answer) (λ ask fault. g.B.Bench.fails c.args.bench.now [] ask fault) (texts c.args.words.now) source sink c.decide-outcome.result c.conclude.result c.decide-outcome.ensures c.conclude.ensures,
-      λ bad. ((answers (λ ask answer. g.B.Bench.gives c.args.bench.now [] ask answer) (λ ask fault. g.B.Bench.fails c.args.bench.now [] ask fault) (texts c.args.words.now) source sink c.decide-outcome.result c.conclude.result c.decide-outcome.ensures c.conclude.ensures).bad bad).0,
+      bad_words (λ artefacts ask answer. g.B.Bench.gives c.args.bench.now artefacts ask answer) (λ artefacts ask fault. g.B.Bench.fails c.args.bench.now artefacts ask fault) (texts c.args.words.now) source sink c.decide-outcome.result c.conclude.result c.decide-outcome.ensures c.conclude.ensures,
+      λ bad. ((answers (λ artefacts ask answer. g.B.Bench.gives c.args.bench.now artefacts ask answer) (λ artefacts ask fault. g.B.Bench.fails c.args.bench.now artefacts ask fault) (texts c.args.words.now) source sink c.decide-outcome.result c.conclude.result c.decide-outcome.ensures c.conclude.ensures).bad bad).0,
     )
 
 pub returns-clause-exact : goal.returns-clause-exact
@@ -53,7 +52,7 @@ returns-clause-exact g c =
       faults_before = g.K.Sink.faults c.args.sink.now;
       faults_after = g.K.Sink.faults c.conclude.new.sink;
     } in
-    λ finding built told calm. exact (λ ask answer. g.B.Bench.gives c.args.bench.now [] ask answer) (λ ask fault. g.B.Bench.fails c.args.bench.now [] ask fault) (texts c.args.words.now) source sink c.decide-outcome.result c.conclude.result finding c.decide-outcome.ensures c.conclude.ensures built told calm
+    λ finding command spelled built told calm. exact (λ artefacts ask answer. g.B.Bench.gives c.args.bench.now artefacts ask answer) (λ artefacts ask fault. g.B.Bench.fails c.args.bench.now artefacts ask fault) (texts c.args.words.now) source sink c.decide-outcome.result c.conclude.result finding command c.decide-outcome.ensures c.conclude.ensures spelled built told calm
 
 pub returns-clause-too_long : goal.returns-clause-too_long
 returns-clause-too_long g c =
@@ -69,4 +68,4 @@ returns-clause-too_long g c =
       faults_before = g.K.Sink.faults c.args.sink.now;
       faults_after = g.K.Sink.faults c.conclude.new.sink;
     } in
-    λ left built told. too_long (λ ask answer. g.B.Bench.gives c.args.bench.now [] ask answer) (λ ask fault. g.B.Bench.fails c.args.bench.now [] ask fault) (texts c.args.words.now) source sink c.decide-outcome.result c.conclude.result left c.decide-outcome.ensures c.conclude.ensures built told
+    λ left command spelled built told. too_long (λ artefacts ask answer. g.B.Bench.gives c.args.bench.now artefacts ask answer) (λ artefacts ask fault. g.B.Bench.fails c.args.bench.now artefacts ask fault) (texts c.args.words.now) source sink c.decide-outcome.result c.conclude.result left command c.decide-outcome.ensures c.conclude.ensures spelled built told

@@ -1,0 +1,63 @@
+-- The one line that a refusal writes. The lines are this project's own: each ends with LF, and numbers
+-- are decimal.
+use Rattle.std.specs.Prelude.{ℕ, List, [], ◌∷◌, ◌++◌, codes, decimal}
+use Rattle.phrase_reader.specs.declared.refusal.Kind.{Kind}
+use Rattle.phrase_reader.specs.declared.refusal.Kind.TheVariants as kinds
+use Rattle.place_check.specs.declared.entry.PlaceKind.{PlaceKind}
+use Rattle.place_check.specs.declared.entry.PlaceKind.TheVariants.{UnknownPlace, MayNotAsk, NotOffered, MayNotSee}
+use Rattle.job_values.specs.Words.{kind_word, path_text}
+use Rattle.job_reader.specs.declared.refusal.JobError.{JobError}
+use Rattle.job_reader.specs.declared.refusal.JobError.TheVariants as errors
+use Rattle.report_text.specs.declared.refusal.Refusal.{Refusal}
+use Rattle.report_text.specs.declared.refusal.Refusal.TheVariants.{Words, ReadFault, TooLong, Job, NoMemory}
+
+-- the word for why a phrase's text is refused
+abbrev pub refusal_word : Kind → List ℕ
+refusal_word kinds.Char = codes "char"
+refusal_word kinds.Word = codes "word"
+refusal_word kinds.Expected = codes "expected"
+refusal_word kinds.Trailing = codes "trailing"
+refusal_word kinds.TooManyArgs = codes "too-many-args"
+refusal_word kinds.NumberTooLarge = codes "number-too-large"
+refusal_word kinds.TooDeep = codes "too-deep"
+refusal_word kinds.TooLong = codes "too-long"
+refusal_word kinds.TooManyEvents = codes "too-many-events"
+
+-- the word for the rule that an event breaks
+abbrev pub place_word : PlaceKind → List ℕ
+place_word UnknownPlace = codes "unknown-place"
+place_word MayNotAsk = codes "may-not-ask"
+place_word NotOffered = codes "not-offered"
+place_word MayNotSee = codes "may-not-see"
+
+-- the end of a line: one number, two numbers, or two numbers and a word
+abbrev pub one_number : ℕ → List ℕ
+one_number number = decimal number ++ 10 ∷ []
+
+abbrev pub two_numbers : ℕ → ℕ → List ℕ
+two_numbers first second = decimal first ++ (32 ∷ one_number second)
+
+abbrev pub numbers_and_word : ℕ → ℕ → List ℕ → List ℕ
+numbers_and_word first second word = decimal first ++ (32 ∷ (decimal second ++ (32 ∷ (word ++ 10 ∷ []))))
+
+-- the line of a job's refusal
+abbrev pub job_line : JobError → List ℕ
+job_line errors.NotJson = codes "error: not json\n"
+job_line (errors.BadJob at kind) = codes "error: job " ++ (path_text at ++ (32 ∷ (kind_word kind ++ 10 ∷ [])))
+job_line (errors.RepeatedPlace first second) = codes "error: repeated place " ++ two_numbers first second
+job_line (errors.RepeatedArtefact first second) = codes "error: repeated artefact " ++ two_numbers first second
+job_line (errors.RepeatedReference first second) = codes "error: repeated reference " ++ two_numbers first second
+job_line (errors.BadRoot session) = codes "error: bad root " ++ one_number session
+job_line (errors.RepeatedNonce first second) = codes "error: repeated nonce " ++ two_numbers first second
+job_line (errors.BadPhrase session at kind) = codes "error: phrase " ++ numbers_and_word session at (refusal_word kind)
+job_line (errors.Misplaced session event kind) = codes "error: misplaced " ++ numbers_and_word session event (place_word kind)
+job_line (errors.Oversize session event) = codes "error: oversize " ++ two_numbers session event
+job_line errors.NoMemory = codes "error: no memory\n"
+
+-- the line of a refusal
+abbrev pub line_of : Refusal → List ℕ
+line_of Words = codes "error: words\n"
+line_of ReadFault = codes "error: read fault\n"
+line_of TooLong = codes "error: input too long\n"
+line_of (Job error) = job_line error
+line_of NoMemory = codes "error: no memory\n"

@@ -1,0 +1,94 @@
+ghost use Rattle.std.specs.Prelude.{IfOk};
+ghost use Rattle.phrase_tree.specs.Term.{term};
+ghost use Rattle.phrase_tree.specs.Numbering.{IsSized};
+
+use super::*;
+use phrase_tree::{Arg, Args, Asp, Name, Phrase, Place, Split};
+use std::alloc::{AllocError, Global};
+use std::test::Fail;
+
+fn asp(name: Name) -> Asp {
+    Asp {
+        name,
+        args: Args::none(),
+    }
+}
+
+// @q [USM scan -> SIG]
+fn asked(alloc: Global, q: Place, scan: Name) -> Result<Phrase, AllocError>
+    ensures { IfOk result (λ phrase. IsSized (term phrase)) }
+{
+    let left = Box::new(alloc, Phrase::Usm(asp(scan)))?;
+    let right = Box::new(alloc, Phrase::Sig)?;
+    let body = Box::new(alloc, Phrase::Then(left, right))?;
+    Ok(Phrase::At(q, body))
+}
+
+// @q [@bank [@q [CPY]]]
+fn asked_back(alloc: Global, q: Place, bank: Place) -> Result<Phrase, AllocError>
+    ensures { IfOk result (λ phrase. IsSized (term phrase)) }
+{
+    let leaf = Box::new(alloc, Phrase::Cpy)?;
+    let inner = Box::new(alloc, Phrase::At(q, leaf))?;
+    let middle = Box::new(alloc, Phrase::At(bank, inner))?;
+    Ok(Phrase::At(q, middle))
+}
+
+fn two_arguments(word: Name, number: u32) -> Args {
+    let mut args = Args::none();
+    let _ = args.push(Arg::Word(word));
+    let _ = args.push(Arg::Number(number));
+    args
+}
+
+// USM a +~+ KIM q b a 7 -> HSH, or the same with +<+
+fn joined(alloc: Global, q: Place, a: Name, b: Name, parallel: bool) -> Result<Phrase, AllocError>
+    ensures { IfOk result (λ phrase. IsSized (term phrase)) }
+{
+    let left = Box::new(alloc, Phrase::Usm(asp(a)))?;
+    let measurement = Asp {
+        name: b,
+        args: two_arguments(a, 7),
+    };
+    let right = Box::new(alloc, Phrase::Kim(q, measurement))?;
+    let split = Split {
+        left: true,
+        right: true,
+    };
+    let branch = if parallel {
+        Phrase::Par(split, left, right)
+    } else {
+        Phrase::Seq(split, left, right)
+    };
+    Ok(Phrase::Then(Box::new(alloc, branch)?, Box::new(alloc, Phrase::Hsh)?))
+}
+
+// The lines are those of another program.
+#[test]
+fn events_are_reported_with_their_direct_predecessors(rt: HostRuntime) -> Result<(), Fail> {
+    let bank = Name::read("bank").ok_or("bank")?;
+    let q = Name::read("q").ok_or("q")?;
+    let scan = Name::read("scan").ok_or("scan")?;
+    let text = events_text(rt.alloc(), 0, &asked(rt.alloc(), q, scan)?, bank)?;
+    let lines =
+        "session 0 events 4\nevent 0 req q at bank\nevent 1 usm scan at q after 0\nevent 2 sig at q after 1\nevent 3 rpl q at bank after 2\n";
+    assert_eq!(rt; text.items(), lines.as_bytes());
+    let text = events_text(rt.alloc(), 255, &asked_back(rt.alloc(), q, bank)?, bank)?;
+    let lines =
+        "session 255 events 7\nevent 0 req q at bank\nevent 1 req bank at q after 0\nevent 2 req q at bank after 1\nevent 3 cpy at q after 2\nevent 4 rpl q at bank after 3\nevent 5 rpl bank at q after 4\nevent 6 rpl q at bank after 5\n";
+    assert_eq!(rt; text.items(), lines.as_bytes());
+    let text = events_text(
+        rt.alloc(),
+        1,
+        &joined(rt.alloc(), q, scan, bank, true)?,
+        bank,
+    )?;
+    let lines =
+        "session 1 events 5\nevent 0 split at bank\nevent 1 usm scan at bank after 0\nevent 2 kim q bank scan 7 at bank after 0\nevent 3 join at bank after 1 2\nevent 4 hsh at bank after 3\n";
+    assert_eq!(rt; text.items(), lines.as_bytes());
+    let text = events_text(rt.alloc(), 1, &joined(rt.alloc(), q, scan, bank, false)?, q)?;
+    let lines =
+        "session 1 events 5\nevent 0 split at q\nevent 1 usm scan at q after 0\nevent 2 kim q bank scan 7 at q after 1\nevent 3 join at q after 2\nevent 4 hsh at q after 3\n";
+    assert_eq!(rt; text.items(), lines.as_bytes());
+    Ok(())
+}

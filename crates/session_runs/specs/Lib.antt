@@ -1,0 +1,11 @@
+pub mod Configuration
+pub mod Moves
+pub mod Standing
+pub mod History
+pub mod Owner
+pub mod Progress
+pub mod Rising
+pub mod MoveOrder
+pub mod Schedule
+pub mod Played
+pub mod WrongHistories
