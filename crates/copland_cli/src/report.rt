@@ -227,7 +227,7 @@ fn push_answer_text(text: &mut Vec<u8>, answer: &[u8]) -> Result<(), NoMemory>
     ensures { OnOk result (text.new.items ≡ text.old.items ++ answer_text answer.now) }
 {
     match answer {
-        [] => { push_bytes(text, b"-") }
+        [] => push_bytes(text, b"-"),
         [_, ..] => push_hex(text, answer),
     }
 }
@@ -236,7 +236,7 @@ fn push_fault(text: &mut Vec<u8>, fault: BenchFault) -> Result<(), NoMemory>
     ensures { OnOk result (text.new.items ≡ text.old.items ++ fault_text fault) }
 {
     match fault {
-        BenchFault::NoArtefact => { push_bytes(text, b"no-artefact") }
+        BenchFault::NoArtefact => push_bytes(text, b"no-artefact"),
         BenchFault::Broken(code) => {
             push_bytes(text, b"broken ")?;
             push_decimal(text, u32::from(code))

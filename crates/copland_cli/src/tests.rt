@@ -135,7 +135,7 @@ fn expect_all(
     Ok(())
 }
 
-// The reports are worked rows of the formats; the seals and hashes were computed by Python's hmac and
+// The reports were worked by hand from the formats; the seals and hashes are those of Python's hmac and
 // hashlib.
 #[test]
 fn sessions_are_reported(rt: HostRuntime) -> Result<(), Fail> {

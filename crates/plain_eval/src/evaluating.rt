@@ -147,6 +147,18 @@ fn kim(
     nodes::kim(alloc, event, &answer, before)
 }
 
+/// A value that is made once the event of this number has happened.
+fn ending(value: Box<Value>, last: u32) -> Made
+    requires { last + 1 < 2 ^ 32 }
+    ensures value { evidence result.value.value ≡ evidence value.value }
+    ensures next { result.next ≡ last + 1 }
+{
+    Made {
+        value,
+        next: last + 1,
+    }
+}
+
 /// The value of a phrase that a place runs from a number on, on the evidence before it.
 #[cycle(evaluation)]
 fn value_of(
@@ -164,44 +176,26 @@ fn value_of(
     ensures short { IfOk result (λ made. HasShortAnswers (term phrase.now) first from.now.answers.now) }
 {
     match phrase {
-        Phrase::Cpy => Ok(Made {
-            value: before,
-            next: first + 1,
-        }),
+        Phrase::Cpy => Ok(ending(before, first)),
         Phrase::Sig => {
             let value = sealed(alloc, from, place, first, before)?;
-            Ok(Made {
-                value,
-                next: first + 1,
-            })
+            Ok(ending(value, first))
         }
         Phrase::Hsh => {
             let value = hashed(alloc, first, before)?;
-            Ok(Made {
-                value,
-                next: first + 1,
-            })
+            Ok(ending(value, first))
         }
         Phrase::Usm(_) => {
             let value = usm(alloc, from, first, before)?;
-            Ok(Made {
-                value,
-                next: first + 1,
-            })
+            Ok(ending(value, first))
         }
         Phrase::Kim(_, _) => {
             let value = kim(alloc, from, first, before)?;
-            Ok(Made {
-                value,
-                next: first + 1,
-            })
+            Ok(ending(value, first))
         }
         Phrase::At(asked, body) => {
             let made = value_of(alloc, from, body, *asked, first + 1, before)?;
-            Ok(Made {
-                value: made.value,
-                next: made.next + 1,
-            })
+            Ok(ending(made.value, made.next))
         }
         Phrase::Then(left, right) => {
             let made = chained(alloc, from, left, place, first, before)?;
@@ -212,20 +206,14 @@ fn value_of(
             let on_left = value_of(alloc, from, left, place, first + 1, before_left)?;
             let on_right = value_of(alloc, from, right, place, on_left.next, before_right)?;
             let value = nodes::seq_pair(alloc, on_left.value, on_right.value)?;
-            Ok(Made {
-                value,
-                next: on_right.next + 1,
-            })
+            Ok(ending(value, on_right.next))
         }
         Phrase::Par(split, left, right) => {
             let (before_left, before_right) = parts(alloc, *split, before)?;
             let on_left = value_of(alloc, from, left, place, first + 1, before_left)?;
             let on_right = value_of(alloc, from, right, place, on_left.next, before_right)?;
             let value = nodes::par_pair(alloc, on_left.value, on_right.value)?;
-            Ok(Made {
-                value,
-                next: on_right.next + 1,
-            })
+            Ok(ending(value, on_right.next))
         }
     }
 }

@@ -306,3 +306,8 @@ fn checked_sessions_have_the_values_written_out(rt: HostRuntime) -> Result<(), F
     expect_value(&rt, alloc, copied_seals(alloc)?, &bench, of_the_copies)?;
     Ok(())
 }
+
+#[test]
+fn the_law_of_rising_records_holds_of_the_programs_bench(_rt: HostRuntime) {
+    rising_records_are_right::<DigestBench>();
+}
