@@ -7,7 +7,7 @@ import sys
 import time
 
 TOP = os.path.dirname(os.path.dirname(os.path.abspath(__file__)))
-PROGRAM = os.path.join(TOP, "crates", "copland_cli", "out", "copland_cli")
+PROGRAM = os.path.join(TOP, "crates", "cerealspit", "out", "cerealspit")
 
 # The most bytes that the program reads.
 MOST_BYTES = 4_194_304

@@ -1,5 +1,5 @@
 -- The blocks of a program by their names, and where a block's code ends.
-use Rattle.std.specs.Prelude.{◌≡◌, ℕ, Bool, true, false, List, [], ◌∷◌, nat_eq, if◌then◌else◌}
+use Rattle.std.specs.Prelude.{◌≡◌, ◌+◌, ℕ, Bool, true, false, List, [], ◌∷◌, nat_eq, if◌then◌else◌}
 use Rattle.std.specs.List.{filter, list_any}
 use Rattle.avm_code.specs.declared.instr.BlockName.{BlockName}
 use Rattle.avm_code.specs.declared.instr.BlockName.TheVariants.{Root, Of}
@@ -52,6 +52,34 @@ asks_for number _ = false
 -- of any other block with a number is that of a right arm
 abbrev pub is_remote : List Block → ℕ → Bool
 is_remote blocks number = list_any (λ one. list_any (asks_for number) one.code) blocks
+
+-- the instruction waits for the block with this number: for its reply, or for the result of a right arm
+abbrev pub awaits : ℕ → Instr → Bool
+awaits number (Recv event name) = nat_eq name number
+awaits number (JoinPar event name) = nat_eq name number
+awaits number _ = false
+
+-- how many instructions of a block's code wait for it
+abbrev pub waits_in : ℕ → List Instr → ℕ
+waits_in number [] = 0
+waits_in number (first ∷ rest) = (if awaits number first then 1 else 0) + waits_in number rest
+
+-- and of all blocks
+abbrev pub waits_among : ℕ → List Block → ℕ
+waits_among number [] = 0
+waits_among number (first ∷ rest) = waits_in number first.code + waits_among number rest
+
+-- the name of the block that waits for the block with this number; the root's where none does
+abbrev pub waiting_for : ℕ → List Block → BlockName
+waiting_for number [] = Root
+waiting_for number (first ∷ rest) =
+    if list_any (awaits number) first.code then first.name else waiting_for number rest
+
+-- where an instruction of the block of a name waits for a block, it is this block that does
+abbrev pub WaitsAs : List Block → BlockName → Instr → Type 0
+WaitsAs blocks name (Recv event number) = waiting_for number blocks ≡ name
+WaitsAs blocks name (JoinPar event number) = waiting_for number blocks ≡ name
+WaitsAs blocks name _ = Unit {0}
 
 -- the instruction is the end of its block
 abbrev pub is_end : Instr → Bool

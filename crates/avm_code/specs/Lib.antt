@@ -3,3 +3,4 @@ pub mod Listing
 pub mod Blocks
 pub mod Heights
 pub mod Made
+pub mod Order

@@ -1,10 +1,11 @@
 -- The text in which a program is listed. It is this project's own.
 use Rattle.std.specs.Prelude.{ℕ, List, [], ◌∷◌, ◌++◌, codes, decimal}
-use Rattle.avm_code.specs.Text.{asp_text, signs_text}
+use Rattle.phrase_tree.specs.Text.{asp_text}
+use Rattle.avm_code.specs.Text.{signs_text}
 use Rattle.avm_code.specs.declared.instr.BlockName.{BlockName}
 use Rattle.avm_code.specs.declared.instr.BlockName.TheVariants.{Root, Of}
 use Rattle.avm_code.specs.declared.instr.Instr.{Instr}
-use Rattle.avm_code.specs.declared.instr.Instr.TheVariants.{Copy, Usm, Kim, Sign, Hash, Split, Swap, JoinSeq, Send, Recv, Fork, JoinPar, End}
+use Rattle.avm_code.specs.declared.instr.Instr.TheVariants.{Copy, Usm, Kim, Sign, Hash, Null, Split, Swap, JoinSeq, Send, Recv, Fork, JoinPar, End}
 use Rattle.avm_code.specs.declared.program.Block.{Block}
 
 -- the name of a block: the word `root`, or its number
@@ -19,6 +20,7 @@ instr_text (Usm event asp) = codes "usm " ++ decimal event ++ codes " " ++ asp_t
 instr_text (Kim event target asp) = codes "kim " ++ decimal event ++ codes " " ++ target ++ codes " " ++ asp_text asp
 instr_text (Sign event) = codes "sign " ++ decimal event
 instr_text (Hash event) = codes "hash " ++ decimal event
+instr_text (Null event) = codes "null " ++ decimal event
 instr_text (Split event split) = codes "split " ++ decimal event ++ codes " " ++ signs_text split
 instr_text Swap = codes "swap"
 instr_text (JoinSeq event) = codes "joinseq " ++ decimal event

@@ -1,8 +1,8 @@
 -- The events that the instructions of a program make.
 use Rattle.std.specs.Prelude.{ℕ, List, [], ◌∷◌, ◌++◌}
-use Rattle.phrase_tree.specs.Events.{Event, event, copies, measures, measures_at, seals, hashes, requests, replies, splits, joins}
+use Rattle.phrase_tree.specs.Events.{Event, event, copies, measures, measures_at, seals, hashes, empties, requests, replies, splits, joins}
 use Rattle.avm_code.specs.declared.instr.Instr.{Instr}
-use Rattle.avm_code.specs.declared.instr.Instr.TheVariants.{Copy, Usm, Kim, Sign, Hash, Split, Swap, JoinSeq, Send, Recv, Fork, JoinPar, End}
+use Rattle.avm_code.specs.declared.instr.Instr.TheVariants.{Copy, Usm, Kim, Sign, Hash, Null, Split, Swap, JoinSeq, Send, Recv, Fork, JoinPar, End}
 use Rattle.avm_code.specs.declared.program.Block.{Block}
 use Rattle.avm_code.specs.Blocks.{place_named}
 
@@ -14,6 +14,7 @@ made_by places place (Usm number asp) = event number (measures asp) place ∷ []
 made_by places place (Kim number target asp) = event number (measures_at target asp) place ∷ []
 made_by places place (Sign number) = event number seals place ∷ []
 made_by places place (Hash number) = event number hashes place ∷ []
+made_by places place (Null number) = event number empties place ∷ []
 made_by places place (Split number split) = event number splits place ∷ []
 made_by places place Swap = []
 made_by places place (JoinSeq number) = event number joins place ∷ []

@@ -1,7 +1,7 @@
 use phrase_tree::{Asp, Place, Split};
 
-/// The name of a block: the root of a session, or the number of the request or of the split of the
-/// parallel branch that starts it.
+/// The name of a block: the root of a session, or the number of the event that starts it, which is a
+/// request or the split of a parallel branch.
 #[derive(Clone, Copy, Debug, PartialEq, Eq)]
 pub enum BlockName {
     Root,
@@ -12,7 +12,7 @@ pub enum BlockName {
 /// instruction is that of its event.
 #[derive(Debug, Drop)]
 pub enum Instr {
-    /// The evidence stays.
+    /// The evidence stays as it is.
     Copy(u32),
     /// The evidence under the answer of a measurement.
     Usm(u32, Asp),
@@ -22,7 +22,10 @@ pub enum Instr {
     Sign(u32),
     /// The hash of the evidence.
     Hash(u32),
-    /// Pushes what the right arm of a sequential branch gets; what the left arm gets is the evidence.
+    /// No evidence.
+    Null(u32),
+    /// Pushes what the right arm of a sequential branch gets; what the left arm gets becomes the
+    /// evidence.
     Split(u32, Split),
     /// The evidence and the top of the stack change places. No event.
     Swap,
@@ -32,10 +35,11 @@ pub enum Instr {
     Send(u32, Place),
     /// The reply to the request of the second number.
     Recv(u32, u32),
-    /// Starts the block of the event's number on what the right arm of a parallel branch gets; what
-    /// the left arm gets is the evidence.
+    /// Starts the block of the event's number on what the right arm of a parallel branch gets; what the
+    /// left arm gets becomes the evidence.
     Fork(u32, Split),
-    /// The pair of the evidence and the result of the block of the second number, once it ended.
+    /// The pair of the evidence and the result of the block of the second number, once that block has
+    /// ended.
     JoinPar(u32, u32),
     /// The end of the block: its evidence is its result. No event.
     End,

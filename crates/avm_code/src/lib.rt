@@ -2,8 +2,8 @@
 //! programs, and the text in which a program is listed. The instructions and their numbers are this
 //! project's own.
 //!
-//! No pointer stands in an instruction, a block or a program, so clauses and definitions, here and
-//! above, go by cases on these types themselves: code is a list of `Instr`, a program a list of `Block`.
+//! Instructions, blocks and programs contain no pointers, so clauses and definitions, here and above, go
+//! by cases on these types themselves: code is a list of `Instr`, a program a list of `Block`.
 #![tactic(auto)]
 
 mod instr;
@@ -14,4 +14,4 @@ mod text;
 pub use instr::{BlockName, Instr};
 pub use lines::listing;
 pub use program::{Block, Code, Program};
-pub use text::{push_asp, push_bytes, push_decimal, push_signs};
+pub use text::push_signs;

@@ -1,12 +1,13 @@
 ghost use Rattle.std.specs.Prelude.{◌≡◌, ◌++◌, ◌∷◌, codes, decimal, IfOk, OnOk};
-ghost use Rattle.avm_code.specs.Text.{asp_text, signs_text};
+ghost use Rattle.phrase_tree.specs.Text.{asp_text};
+ghost use Rattle.avm_code.specs.Text.{signs_text};
 ghost use Rattle.avm_code.specs.Listing.{name_text, instr_text, code_text, block_text, listing_text};
 
 use crate::instr::{BlockName, Instr};
 use crate::program::{Block, Program};
-use crate::text::{push_asp, push_bytes, push_decimal, push_signs};
+use crate::text::push_signs;
 use byte_ports::Bytes;
-use phrase_tree::{Asp, NoMemory, Place, Split};
+use phrase_tree::{Asp, NoMemory, Place, Split, push_asp, push_bytes, push_decimal};
 use std::alloc::Global;
 
 fn push_numbered(text: &mut Vec<u8>, word: &[u8], number: u32) -> Result<(), NoMemory>
@@ -82,6 +83,7 @@ fn push_instr(text: &mut Vec<u8>, instr: &Instr) -> Result<(), NoMemory>
         Instr::Kim(event, target, asp) => push_targeted(text, b"kim ", *event, target, asp),
         Instr::Sign(event) => push_numbered(text, b"sign ", *event),
         Instr::Hash(event) => push_numbered(text, b"hash ", *event),
+        Instr::Null(event) => push_numbered(text, b"null ", *event),
         Instr::Split(event, split) => push_branching(text, b"split ", *event, *split),
         Instr::Swap => push_bytes(text, b"swap"),
         Instr::JoinSeq(event) => push_numbered(text, b"joinseq ", *event),

@@ -1,6 +1,7 @@
-ghost use Rattle.std.specs.Prelude.{◌≡◌, [], ◌∷◌, ◌++◌, OnOk, IfErr, OnErr};
+ghost use Rattle.std.specs.Prelude.{◌≡◌, ◌<◌, [], ◌∷◌, ◌++◌, length, slice_index_or, nat_lt, OnOk, IfErr, OnErr};
 ghost use Rattle.std.specs.List.{list_any};
 ghost use Rattle.avm_code.specs.Blocks.{asks_for, is_remote};
+ghost use Rattle.avm_code.specs.Order.{number_after, IsInOrder, HasBlock, IsAt, place_called, code_called};
 
 use crate::instr::{BlockName, Instr};
 use phrase_tree::Place;
@@ -35,8 +36,8 @@ impl Code {
         &self.instrs
     }
 
-    /// Appends an instruction. An error is want of memory: it hands the instruction back, and the
-    /// code stays.
+    /// Appends an instruction. An error is want of memory: it hands the instruction back, and the code
+    /// is unchanged.
     pub fn push(&mut self, item: Instr) -> Result<(), Instr>
         ensures ok { OnOk result (self.new ≡ self.old ++ item ∷ []) }
         ensures handed_back { IfErr result (λ instr. instr ≡ item) }
@@ -86,8 +87,8 @@ impl Program {
         &self.blocks
     }
 
-    /// Whether a place is asked to run the block with this number: its result at its end is then the
-    /// reply, and else that of a right arm. Takes no memory, and time linear in the program.
+    /// Whether a place is asked to run the block with this number: then its result is the reply to a
+    /// request, otherwise it is that of a right arm. Takes no memory, and time linear in the program.
     pub fn is_remote(&self, number: u32) -> bool
         ensures { result ≡ is_remote self.now number }
     {
@@ -96,7 +97,29 @@ impl Program {
             .any(|block| code_asks_for(block.code.items(), number))
     }
 
-    /// Appends a block. An error is want of memory: it hands the block back, and the program stays.
+    /// The index of the block of a name. Takes no memory, and time in the logarithm of the number of
+    /// blocks.
+    pub fn index_of(&self, name: BlockName) -> usize
+        requires order { IsInOrder self.now }
+        requires there { HasBlock self.now name }
+        ensures { IsAt self.now name result }
+    {
+        index_among(&self.blocks, name)
+    }
+
+    /// The block of a name, in the same time.
+    pub fn block(&self, name: BlockName) -> &Block
+        requires order { IsInOrder self.now }
+        requires there { HasBlock self.now name }
+        ensures named { result.now.name ≡ name }
+        ensures place { result.now.place ≡ place_called self.now name }
+        ensures code { result.now.code ≡ code_called self.now name }
+    {
+        block_at(&self.blocks, self.index_of(name))
+    }
+
+    /// Appends a block. An error is want of memory: it hands the block back, and the program is
+    /// unchanged.
     pub fn push(&mut self, item: Block) -> Result<(), Block>
         ensures ok { OnOk result (self.new ≡ self.old ++ item ∷ []) }
         ensures handed_back { IfErr result (λ block. block ≡ item) }
@@ -122,4 +145,46 @@ fn code_asks_for(code: &[Instr], number: u32) -> bool
     ensures { result ≡ list_any (asks_for number) code.now }
 {
     code.iter().any(|instr| asks_for(instr, number))
+}
+
+/// The rank of a name in the order of names: first the root, then the numbers.
+fn rank(name: BlockName) -> u64
+    ensures { result ≡ number_after name }
+{
+    match name {
+        BlockName::Root => 0,
+        BlockName::Of(number) => number as u64 + 1,
+    }
+}
+
+fn comes_before(block: &Block, name: BlockName) -> bool
+    ensures { result ≡ nat_lt (number_after block.now.name) (number_after name) }
+{
+    rank(block.name) < rank(name)
+}
+
+/// The index of the block of a name, by binary search.
+fn index_among(blocks: &[Block], name: BlockName) -> usize
+    requires order { IsInOrder blocks.now }
+    requires there { HasBlock blocks.now name }
+    ensures { IsAt blocks.now name result }
+{
+    let mut low = 0;
+    let mut high = blocks.len();
+    while low < high {
+        let middle = low + (high - low) / 2;
+        if comes_before(&blocks[middle], name) {
+            low = middle + 1;
+        } else {
+            high = middle;
+        }
+    }
+    low
+}
+
+fn block_at(blocks: &[Block], index: usize) -> &Block
+    requires { index < length blocks.now }
+    ensures { result.now ≡ slice_index_or blocks.now index result.now }
+{
+    &blocks[index]
 }

@@ -3,7 +3,7 @@ use Rattle.std.proofs.Common.{◌≡◌, ◌+◌, ◌≤◌, ◌<◌, ◌++◌, 
 use Rattle.std.proofs.lemmas.Bool.Decides.{nat_tests}
 use Rattle.std.proofs.lemmas.List.{append-nil}
 use Rattle.std.specs.List.{AllByRecursion}
-use Rattle.phrase_tree.specs.Term.{Term, cpy, sig, hsh, usm, kim, at, chain, seq, par}
+use Rattle.phrase_tree.specs.Term.{Term, cpy, sig, hsh, nul, usm, kim, leaf, at, chain, seq, par}
 use Rattle.phrase_tree.specs.declared.phrase.Split.{Split}
 use Rattle.phrase_tree.specs.Numbering.{event_count}
 use Rattle.avm_code.specs.declared.instr.BlockName.{BlockName}
@@ -13,7 +13,8 @@ use Rattle.avm_code.specs.declared.instr.Instr.TheVariants.{End}
 use Rattle.avm_code.specs.declared.program.Block.{Block}
 use Rattle.avm_code.specs.Blocks.{block, is_named, blocks_named, first_place, HasOne, NamesBlock}
 use Rattle.avm_compile.specs.Program.{code_of, whole_code, blocks_of, program_of}
-use Rattle.avm_compile.specs.Laws.{IsWithin, number_after, NamesRise, NamedBlocksAreThere}
+use Rattle.avm_code.specs.Order.{IsWithin, number_after, NamesRise}
+use Rattle.avm_compile.specs.Laws.{NamedBlocksAreThere, HasBlocks, PhrasesHaveBlocks}
 use Rattle.avm_compile.proofs.EndLaws.{both}
 use Rattle.avm_compile.proofs.NameLaws.{rise_within}
 
@@ -44,7 +45,7 @@ after_first : (first end n : ℕ) (name : BlockName) → n < first → IsWithin 
 after_first first end n Root below h = absurd h
 after_first first end n (Of number) below h = omega arith
 
-none_below : (first end n : ℕ) (blocks : List Block) → n < first → NamesRise first end blocks → blocks_named n blocks ≡ []
+pub none_below : (first end n : ℕ) (blocks : List Block) → n < first → NamesRise first end blocks → blocks_named n blocks ≡ []
 none_below first end n [] below h = refl
 none_below first end n (one ∷ rest) below h =
     not_named n one rest (unnamed_below first end n one.name below h.0) ∙ none_below (number_after one.name) end n rest (after_first first end n one.name below h.0) h.1
@@ -133,11 +134,12 @@ abbrev Names : List Block → List ℕ → List Instr → Type 0
 Names all place code = AllByRecursion (NamesBlock all place) code
 
 names_ahead : (all : List Block) (phrase : Term) (place : List ℕ) (i : ℕ) (rest : List Instr) → AreOf all phrase place i → Names all place rest → Names all place (code_of phrase i rest)
-names_ahead all cpy place i rest a h = (tt, h)
-names_ahead all sig place i rest a h = (tt, h)
-names_ahead all hsh place i rest a h = (tt, h)
-names_ahead all (usm asp) place i rest a h = (tt, h)
-names_ahead all (kim target asp) place i rest a h = (tt, h)
+names_ahead all (leaf cpy) place i rest a h = (tt, h)
+names_ahead all (leaf sig) place i rest a h = (tt, h)
+names_ahead all (leaf hsh) place i rest a h = (tt, h)
+names_ahead all (leaf nul) place i rest a h = (tt, h)
+names_ahead all (leaf (usm asp)) place i rest a h = (tt, h)
+names_ahead all (leaf (kim target asp)) place i rest a h = (tt, h)
 names_ahead all (at asked body) place i rest a h =
     let e = of_request all asked body place i a in
     (one_at all i _ e, (one_somewhere all i _ e, h))
@@ -156,11 +158,7 @@ whole_names : (all : List Block) (phrase : Term) (place : List ℕ) (i : ℕ) �
 whole_names all phrase place i a = names_ahead all phrase place i (End ∷ []) a (tt, tt)
 
 blocks_name : (all : List Block) (phrase : Term) (place : List ℕ) (i : ℕ) → AreOf all phrase place i → AllByRecursion (BlockNames all) (blocks_of phrase place i)
-blocks_name all cpy place i a = tt
-blocks_name all sig place i a = tt
-blocks_name all hsh place i a = tt
-blocks_name all (usm asp) place i a = tt
-blocks_name all (kim target asp) place i a = tt
+blocks_name all (leaf form) place i a = tt
 blocks_name all (at asked body) place i a =
     let b = of_body all asked body place i a in
     (whole_names all body asked (i + 1) b, blocks_name all body asked (i + 1) b)
@@ -180,3 +178,17 @@ pub named_blocks_are_there : NamedBlocksAreThere
 named_blocks_are_there phrase place =
     let a = of_program phrase place in
     (whole_names (program_of phrase place) phrase place 0 a, blocks_name (program_of phrase place) phrase place 0 a)
+
+has_blocks : (all : List Block) (phrase : Term) (place : List ℕ) (i : ℕ) → AreOf all phrase place i → HasBlocks all phrase place i
+has_blocks all (leaf form) place i a = tt
+has_blocks all (at asked body) place i a =
+    (of_request all asked body place i a, has_blocks all body asked (i + 1) (of_body all asked body place i a))
+has_blocks all (chain left right) place i a =
+    (has_blocks all left place i (of_chain_left all left right place i a), has_blocks all right place (i + event_count left) (of_chain_right all left right place i a))
+has_blocks all (seq split left right) place i a =
+    (has_blocks all left place (i + 1) (of_seq_left all split left right place i a), has_blocks all right place (i + 1 + event_count left) (of_seq_right all split left right place i a))
+has_blocks all (par split left right) place i a =
+    (of_arm all split left right place i a, has_blocks all left place (i + 1) (of_par_left all split left right place i a), has_blocks all right place (i + 1 + event_count left) (of_par_right all split left right place i a))
+
+pub phrases_have_blocks : PhrasesHaveBlocks
+phrases_have_blocks phrase place = has_blocks (program_of phrase place) phrase place 0 (of_program phrase place)

@@ -2,7 +2,7 @@
 use Rattle.std.proofs.Common.{◌≡◌, ◌+◌, ◌++◌, ◌∙◌, ℕ, List, [], ◌∷◌, refl}
 use Rattle.std.specs.Prelude.{IsTrue}
 use Rattle.std.specs.List.{AllByRecursion}
-use Rattle.phrase_tree.specs.Term.{Term, cpy, sig, hsh, usm, kim, at, chain, seq, par}
+use Rattle.phrase_tree.specs.Term.{Term, cpy, sig, hsh, nul, usm, kim, leaf, at, chain, seq, par}
 use Rattle.phrase_tree.specs.Numbering.{event_count}
 use Rattle.avm_code.specs.declared.instr.Instr.{Instr}
 use Rattle.avm_code.specs.declared.instr.Instr.TheVariants.{Swap, JoinSeq, JoinPar, End}
@@ -13,11 +13,12 @@ use Rattle.avm_compile.specs.Laws.{CodeEndsOnce}
 
 -- a phrase's code has no end of its own
 ends_behind : (phrase : Term) (i : ℕ) (rest : List Instr) → ends_once (code_of phrase i rest) ≡ ends_once rest
-ends_behind cpy i rest = refl
-ends_behind sig i rest = refl
-ends_behind hsh i rest = refl
-ends_behind (usm asp) i rest = refl
-ends_behind (kim target asp) i rest = refl
+ends_behind (leaf cpy) i rest = refl
+ends_behind (leaf sig) i rest = refl
+ends_behind (leaf hsh) i rest = refl
+ends_behind (leaf nul) i rest = refl
+ends_behind (leaf (usm asp)) i rest = refl
+ends_behind (leaf (kim target asp)) i rest = refl
 ends_behind (at asked body) i rest = refl
 ends_behind (chain left right) i rest =
     ends_behind left i (code_of right (i + event_count left) rest) ∙ ends_behind right (i + event_count left) rest
@@ -35,11 +36,7 @@ both P [] ys h k = k
 both P (x ∷ xs) ys h k = (h.0, both P xs ys h.1 k)
 
 blocks_end : (phrase : Term) (place : List ℕ) (i : ℕ) → AllByRecursion EndsOnce (blocks_of phrase place i)
-blocks_end cpy place i = tt
-blocks_end sig place i = tt
-blocks_end hsh place i = tt
-blocks_end (usm asp) place i = tt
-blocks_end (kim target asp) place i = tt
+blocks_end (leaf form) place i = tt
 blocks_end (at asked body) place i = (ends_behind body (i + 1) (End ∷ []), blocks_end body asked (i + 1))
 blocks_end (chain left right) place i =
     both EndsOnce _ _ (blocks_end left place i) (blocks_end right place (i + event_count left))

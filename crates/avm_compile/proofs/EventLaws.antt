@@ -4,16 +4,16 @@ use Rattle.std.proofs.lemmas.Bool.Decides.{nat_tests}
 use Rattle.std.proofs.lemmas.List.Sums.{sum_by-append}
 use Rattle.std.specs.List.{count_by}
 use Rattle.std.specs.Prelude.{nat_eq}
-use Rattle.phrase_tree.specs.Term.{Term, cpy, sig, hsh, usm, kim, at, chain, seq, par}
+use Rattle.phrase_tree.specs.Term.{Term, Leaf, cpy, sig, hsh, nul, usm, kim, leaf, at, chain, seq, par}
 use Rattle.phrase_tree.specs.Numbering.{event_count}
-use Rattle.phrase_tree.specs.Events.{Event, Kind, event, events_of, copies, measures, measures_at, seals, hashes, requests, replies, splits, joins}
+use Rattle.phrase_tree.specs.Events.{Event, Kind, event, events_of, requests, replies, splits, joins, leaf_kind}
 use Rattle.avm_code.specs.declared.instr.Instr.{Instr}
-use Rattle.avm_code.specs.declared.instr.Instr.TheVariants.{Copy, Usm, Kim, Sign, Hash, Split, Swap, JoinSeq, Send, Recv, Fork, JoinPar, End}
+use Rattle.avm_code.specs.declared.instr.Instr.TheVariants.{Split, Swap, JoinSeq, Send, Recv, Fork, JoinPar, End}
 use Rattle.avm_code.specs.declared.instr.BlockName.TheVariants.{Root, Of}
 use Rattle.avm_code.specs.declared.program.Block.{Block}
 use Rattle.avm_code.specs.Blocks.{block, first_place, place_named}
 use Rattle.avm_code.specs.Made.{made_by, made_in, made_by_blocks, made_by_program}
-use Rattle.avm_compile.specs.Program.{last_of_request, last_of_branch, code_of, whole_code, blocks_of, program_of}
+use Rattle.avm_compile.specs.Program.{last_of_request, last_of_branch, leaf_instr, code_of, whole_code, blocks_of, program_of}
 use Rattle.avm_compile.specs.Laws.{MakesTheEvents, MakesEachEventOnce}
 use Rattle.avm_compile.proofs.BlockLaws.{AreOf, of_body, of_chain_left, of_chain_right, of_seq_left, of_seq_right, of_par_left, of_par_right, of_request, of_program}
 
@@ -75,18 +75,19 @@ in_both places test (one ∷ xs) ys =
 replied : (all : List Block) (asked : List ℕ) (body : Term) (place : List ℕ) (i : ℕ) → AreOf all (at asked body) place i → place_named all i ≡ asked
 replied all asked body place i a = ap first_place (of_request all asked body place i a)
 
+-- the instruction of a leaf makes its one event
+leaf_made : (places : ℕ → List ℕ) (form : Leaf) (place : List ℕ) (i : ℕ) → made_by places place (leaf_instr form i) ≡ event i (leaf_kind form) place ∷ []
+leaf_made places cpy place i = refl
+leaf_made places sig place i = refl
+leaf_made places hsh place i = refl
+leaf_made places nul place i = refl
+leaf_made places (usm asp) place i = refl
+leaf_made places (kim target asp) place i = refl
+
 -- what a part's code and its blocks make is what the part has, beside what the code behind it makes
 makes_ahead : (all : List Block) (test : Event → Bool) (phrase : Term) (place : List ℕ) (i : ℕ) (rest : List Instr) → AreOf all phrase place i → in_code (place_named all) test place (code_of phrase i rest) + in_blocks (place_named all) test (blocks_of phrase place i) ≡ tally test (events_of phrase place i) + in_code (place_named all) test place rest
-makes_ahead all test cpy place i rest a =
-    omega (arith, code_first (place_named all) test place (Copy i) rest, blocks_none (place_named all) test)
-makes_ahead all test sig place i rest a =
-    omega (arith, code_first (place_named all) test place (Sign i) rest, blocks_none (place_named all) test)
-makes_ahead all test hsh place i rest a =
-    omega (arith, code_first (place_named all) test place (Hash i) rest, blocks_none (place_named all) test)
-makes_ahead all test (usm asp) place i rest a =
-    omega (arith, code_first (place_named all) test place (Usm i asp) rest, blocks_none (place_named all) test)
-makes_ahead all test (kim target asp) place i rest a =
-    omega (arith, code_first (place_named all) test place (Kim i target asp) rest, blocks_none (place_named all) test)
+makes_ahead all test (leaf form) place i rest a =
+    omega (arith, ap (tally test) (leaf_made (place_named all) form place i), code_first (place_named all) test place (leaf_instr form i) rest, blocks_none (place_named all) test)
 makes_ahead all test (at asked body) place i rest a =
     let places = place_named all in
     let last = last_of_request body i in
@@ -138,11 +139,7 @@ in_branch n left right place i l r =
 
 -- the numbers of a part's events are those from its first on, each once
 numbered : (n : ℕ) (phrase : Term) (place : List ℕ) (i : ℕ) → tally (has n) (events_of phrase place i) + below n i ≡ below n (i + event_count phrase)
-numbered n cpy place i = one_number n i copies place
-numbered n sig place i = one_number n i seals place
-numbered n hsh place i = one_number n i hashes place
-numbered n (usm asp) place i = one_number n i (measures asp) place
-numbered n (kim target asp) place i = one_number n i (measures_at target asp) place
+numbered n (leaf form) place i = one_number n i (leaf_kind form) place
 numbered n (at asked body) place i =
     let last = last_of_request body i in
     let same : last + 1 ≡ i + (2 + event_count body) = omega arith in

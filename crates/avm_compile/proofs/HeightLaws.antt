@@ -1,7 +1,7 @@
 -- The stack of a block has what each instruction takes, and at most 65 entries.
 use Rattle.std.proofs.Common.{◌≡◌, ◌+◌, ◌-◌, ◌≤◌, ◌||◌, Bool, true, false, cond, ℕ, zero, suc, List, [], ◌∷◌, max, refl, arith}
 use Rattle.std.specs.List.{AllByRecursion}
-use Rattle.phrase_tree.specs.Term.{Term, cpy, sig, hsh, usm, kim, at, chain, seq, par, is_branch, is_chain}
+use Rattle.phrase_tree.specs.Term.{Term, cpy, sig, hsh, nul, usm, kim, leaf, at, chain, seq, par, is_branch, is_chain}
 use Rattle.phrase_tree.specs.Numbering.{event_count, depth}
 use Rattle.avm_code.specs.declared.instr.Instr.{Instr}
 use Rattle.avm_code.specs.declared.instr.Instr.TheVariants.{End}
@@ -13,11 +13,7 @@ use Rattle.avm_compile.proofs.EndLaws.{both}
 
 -- how many entries the code of a phrase has on the stack at most, above those that stand there before
 stack_of : Term → ℕ
-stack_of cpy = 0
-stack_of sig = 0
-stack_of hsh = 0
-stack_of (usm asp) = 0
-stack_of (kim target asp) = 0
+stack_of (leaf form) = 0
 stack_of (at asked body) = 0
 stack_of (chain left right) = max (stack_of left) (stack_of right)
 stack_of (seq split left right) = 1 + max (stack_of left) (stack_of right)
@@ -25,11 +21,12 @@ stack_of (par split left right) = stack_of left
 
 fits_ahead : (most : ℕ) (phrase : Term) (i height : ℕ) (rest : List Instr) → height + stack_of phrase ≤ most → HeightsFit most height rest → HeightsFit most height (code_of phrase i rest)
 unfolding stack_of
-fits_ahead most cpy i height rest low fit = (omega arith, tt, fit)
-fits_ahead most sig i height rest low fit = (omega arith, tt, fit)
-fits_ahead most hsh i height rest low fit = (omega arith, tt, fit)
-fits_ahead most (usm asp) i height rest low fit = (omega arith, tt, fit)
-fits_ahead most (kim target asp) i height rest low fit = (omega arith, tt, fit)
+fits_ahead most (leaf cpy) i height rest low fit = (omega arith, tt, fit)
+fits_ahead most (leaf sig) i height rest low fit = (omega arith, tt, fit)
+fits_ahead most (leaf hsh) i height rest low fit = (omega arith, tt, fit)
+fits_ahead most (leaf nul) i height rest low fit = (omega arith, tt, fit)
+fits_ahead most (leaf (usm asp)) i height rest low fit = (omega arith, tt, fit)
+fits_ahead most (leaf (kim target asp)) i height rest low fit = (omega arith, tt, fit)
 fits_ahead most (at asked body) i height rest low fit = (omega arith, tt, (omega arith, tt, fit))
 fits_ahead most (chain left right) i height rest low fit =
     fits_ahead most left i height _ (omega arith) (fits_ahead most right (i + event_count left) height rest (omega arith) fit)
@@ -47,11 +44,7 @@ more_by_or false false = omega arith
 
 low_stack : (phrase : Term) → stack_of phrase ≤ depth phrase + cond (is_branch phrase) 1 0
 unfolding stack_of
-low_stack cpy = omega arith
-low_stack sig = omega arith
-low_stack hsh = omega arith
-low_stack (usm asp) = omega arith
-low_stack (kim target asp) = omega arith
+low_stack (leaf form) = omega arith
 low_stack (at asked body) = omega arith
 low_stack (chain left right) =
     omega (arith, low_stack left, low_stack right, more_by_or (is_branch right) (is_chain right))
@@ -70,11 +63,7 @@ abbrev Fits : Block → Type 0
 Fits one = HeightsFit 65 0 one.code
 
 blocks_fit : (phrase : Term) (place : List ℕ) (i : ℕ) → depth phrase ≤ 64 → AllByRecursion Fits (blocks_of phrase place i)
-blocks_fit cpy place i shallow = tt
-blocks_fit sig place i shallow = tt
-blocks_fit hsh place i shallow = tt
-blocks_fit (usm asp) place i shallow = tt
-blocks_fit (kim target asp) place i shallow = tt
+blocks_fit (leaf form) place i shallow = tt
 blocks_fit (at asked body) place i shallow =
     (whole_fits body (i + 1) (omega arith), blocks_fit body asked (i + 1) (omega arith))
 blocks_fit (chain left right) place i shallow =

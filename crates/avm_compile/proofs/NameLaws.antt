@@ -1,13 +1,14 @@
 -- The names of a program's blocks rise.
 use Rattle.std.proofs.Common.{◌≡◌, ◌+◌, ◌≤◌, ◌++◌, ℕ, List, [], ◌∷◌, refl, arith, append_assoc}
 use Rattle.std.proofs.lemmas.List.{append-nil}
-use Rattle.phrase_tree.specs.Term.{Term, cpy, sig, hsh, usm, kim, at, chain, seq, par}
+use Rattle.phrase_tree.specs.Term.{Term, leaf, at, chain, seq, par}
 use Rattle.phrase_tree.specs.Numbering.{event_count}
 use Rattle.avm_code.specs.declared.instr.BlockName.{BlockName}
 use Rattle.avm_code.specs.declared.instr.BlockName.TheVariants.{Root, Of}
 use Rattle.avm_code.specs.declared.program.Block.{Block}
+use Rattle.avm_code.specs.Order.{IsWithin, NamesRise}
 use Rattle.avm_compile.specs.Program.{blocks_of}
-use Rattle.avm_compile.specs.Laws.{IsWithin, NamesRise, NamesAreInOrder}
+use Rattle.avm_compile.specs.Laws.{NamesAreInOrder}
 
 within_lower : (lower first end : ℕ) (name : BlockName) → lower ≤ first → IsWithin first end name → IsWithin lower end name
 within_lower lower first end Root le h = h
@@ -22,11 +23,7 @@ regrouped lower end xs ys zs h = rw append_assoc h
 
 -- ahead of blocks behind the numbers of a phrase, the blocks of the phrase rise
 rise_ahead : (phrase : Term) (place : List ℕ) (i lower end : ℕ) (more : List Block) → lower ≤ i → i + event_count phrase ≤ end → NamesRise (i + event_count phrase) end more → NamesRise lower end (blocks_of phrase place i ++ more)
-rise_ahead cpy place i lower end more le fits h = rise_lower lower (i + 1) end more (omega arith) h
-rise_ahead sig place i lower end more le fits h = rise_lower lower (i + 1) end more (omega arith) h
-rise_ahead hsh place i lower end more le fits h = rise_lower lower (i + 1) end more (omega arith) h
-rise_ahead (usm asp) place i lower end more le fits h = rise_lower lower (i + 1) end more (omega arith) h
-rise_ahead (kim target asp) place i lower end more le fits h = rise_lower lower (i + 1) end more (omega arith) h
+rise_ahead (leaf form) place i lower end more le fits h = rise_lower lower (i + 1) end more (omega arith) h
 rise_ahead (at asked body) place i lower end more le fits h =
     ((le, omega arith), rise_ahead body asked (i + 1) (i + 1) end more (omega arith) (omega arith) (rise_lower (i + 1 + event_count body) (i + (2 + event_count body)) end more (omega arith) h))
 rise_ahead (chain left right) place i lower end more le fits h =

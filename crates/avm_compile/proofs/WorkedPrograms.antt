@@ -2,7 +2,7 @@
 -- block from a place inside it: an edit of the definitions is refused here.
 use Rattle.std.proofs.Common.{◌≡◌, ℕ, List, [], ◌∷◌, ◌+◌, true, false, refl, drop}
 use Rattle.std.specs.Prelude.{codes}
-use Rattle.phrase_tree.specs.Term.{Term, cpy, sig, usm, kim, at, chain, seq, par}
+use Rattle.phrase_tree.specs.Term.{Term, cpy, sig, usm, kim, leaf, at, chain, seq, par}
 use Rattle.phrase_tree.specs.Numbering.{event_count}
 use Rattle.phrase_tree.specs.declared.measurement.Arg.TheVariants.{Word}
 use Rattle.phrase_tree.specs.declared.measurement.Asp.{Asp}
@@ -19,21 +19,21 @@ plain name = record { name = name; args = [] }
 abbrev bank : List ℕ
 bank = codes "bank"
 
-a_request : program_of (at (codes "q") (chain (usm (plain (codes "scan"))) sig)) bank ≡ block Root bank (Send 0 (codes "q") ∷ Recv 3 0 ∷ End ∷ []) ∷ block (Of 0) (codes "q") (Usm 1 (plain (codes "scan")) ∷ Sign 2 ∷ End ∷ []) ∷ []
+a_request : program_of (at (codes "q") (chain (leaf (usm (plain (codes "scan")))) (leaf sig))) bank ≡ block Root bank (Send 0 (codes "q") ∷ Recv 3 0 ∷ End ∷ []) ∷ block (Of 0) (codes "q") (Usm 1 (plain (codes "scan")) ∷ Sign 2 ∷ End ∷ []) ∷ []
 a_request = refl
 
-two_arms_in_parallel : program_of (par (record { left = true; right = false }) (usm (plain (codes "a"))) (usm (plain (codes "b")))) bank ≡ block Root bank (Fork 0 (record { left = true; right = false }) ∷ Usm 1 (plain (codes "a")) ∷ JoinPar 3 0 ∷ End ∷ []) ∷ block (Of 0) bank (Usm 2 (plain (codes "b")) ∷ End ∷ []) ∷ []
+two_arms_in_parallel : program_of (par (record { left = true; right = false }) (leaf (usm (plain (codes "a")))) (leaf (usm (plain (codes "b"))))) bank ≡ block Root bank (Fork 0 (record { left = true; right = false }) ∷ Usm 1 (plain (codes "a")) ∷ JoinPar 3 0 ∷ End ∷ []) ∷ block (Of 0) bank (Usm 2 (plain (codes "b")) ∷ End ∷ []) ∷ []
 two_arms_in_parallel = refl
 
-two_arms_in_sequence : program_of (seq (record { left = false; right = true }) (usm (plain (codes "a"))) (usm (plain (codes "b")))) bank ≡ block Root bank (Split 0 (record { left = false; right = true }) ∷ Usm 1 (plain (codes "a")) ∷ Swap ∷ Usm 2 (plain (codes "b")) ∷ JoinSeq 3 ∷ End ∷ []) ∷ []
+two_arms_in_sequence : program_of (seq (record { left = false; right = true }) (leaf (usm (plain (codes "a")))) (leaf (usm (plain (codes "b"))))) bank ≡ block Root bank (Split 0 (record { left = false; right = true }) ∷ Usm 1 (plain (codes "a")) ∷ Swap ∷ Usm 2 (plain (codes "b")) ∷ JoinSeq 3 ∷ End ∷ []) ∷ []
 two_arms_in_sequence = refl
 
 -- a bank asks the kernel's place and the user's place, one after the other
-two_requests : program_of (seq (record { left = true; right = true }) (at (codes "ks") (chain (kim (codes "us") (plain (codes "kernel"))) sig)) (at (codes "us") (chain (chain (usm (plain (codes "scanner"))) (usm (record { name = codes "files"; args = Word (codes "etc") ∷ [] }))) sig))) bank ≡ block Root bank (Split 0 (record { left = true; right = true }) ∷ Send 1 (codes "ks") ∷ Recv 4 1 ∷ Swap ∷ Send 5 (codes "us") ∷ Recv 9 5 ∷ JoinSeq 10 ∷ End ∷ []) ∷ block (Of 1) (codes "ks") (Kim 2 (codes "us") (plain (codes "kernel")) ∷ Sign 3 ∷ End ∷ []) ∷ block (Of 5) (codes "us") (Usm 6 (plain (codes "scanner")) ∷ Usm 7 (record { name = codes "files"; args = Word (codes "etc") ∷ [] }) ∷ Sign 8 ∷ End ∷ []) ∷ []
+two_requests : program_of (seq (record { left = true; right = true }) (at (codes "ks") (chain (leaf (kim (codes "us") (plain (codes "kernel")))) (leaf sig))) (at (codes "us") (chain (chain (leaf (usm (plain (codes "scanner")))) (leaf (usm (record { name = codes "files"; args = Word (codes "etc") ∷ [] })))) (leaf sig)))) bank ≡ block Root bank (Split 0 (record { left = true; right = true }) ∷ Send 1 (codes "ks") ∷ Recv 4 1 ∷ Swap ∷ Send 5 (codes "us") ∷ Recv 9 5 ∷ JoinSeq 10 ∷ End ∷ []) ∷ block (Of 1) (codes "ks") (Kim 2 (codes "us") (plain (codes "kernel")) ∷ Sign 3 ∷ End ∷ []) ∷ block (Of 5) (codes "us") (Usm 6 (plain (codes "scanner")) ∷ Usm 7 (record { name = codes "files"; args = Word (codes "etc") ∷ [] }) ∷ Sign 8 ∷ End ∷ []) ∷ []
 two_requests = refl
 
 -- blocks inside the left arm of a parallel branch stand behind the block of its right arm
-arms_inside_arms : program_of (par (record { left = true; right = true }) (at (codes "q") cpy) (par (record { left = true; right = true }) cpy cpy)) bank ≡ block Root bank (Fork 0 (record { left = true; right = true }) ∷ Send 1 (codes "q") ∷ Recv 3 1 ∷ JoinPar 8 0 ∷ End ∷ []) ∷ block (Of 0) bank (Fork 4 (record { left = true; right = true }) ∷ Copy 5 ∷ JoinPar 7 4 ∷ End ∷ []) ∷ block (Of 1) (codes "q") (Copy 2 ∷ End ∷ []) ∷ block (Of 4) bank (Copy 6 ∷ End ∷ []) ∷ []
+arms_inside_arms : program_of (par (record { left = true; right = true }) (at (codes "q") (leaf cpy)) (par (record { left = true; right = true }) (leaf cpy) (leaf cpy))) bank ≡ block Root bank (Fork 0 (record { left = true; right = true }) ∷ Send 1 (codes "q") ∷ Recv 3 1 ∷ JoinPar 8 0 ∷ End ∷ []) ∷ block (Of 0) bank (Fork 4 (record { left = true; right = true }) ∷ Copy 5 ∷ JoinPar 7 4 ∷ End ∷ []) ∷ block (Of 1) (codes "q") (Copy 2 ∷ End ∷ []) ∷ block (Of 4) bank (Copy 6 ∷ End ∷ []) ∷ []
 arms_inside_arms = refl
 
 -- what is left of the block behind the request of a left arm of a sequential branch inside the left

@@ -89,6 +89,7 @@ fn part(
         Phrase::Cpy => push_leaf(code, number, Instr::Copy(number)),
         Phrase::Sig => push_leaf(code, number, Instr::Sign(number)),
         Phrase::Hsh => push_leaf(code, number, Instr::Hash(number)),
+        Phrase::Nul => push_leaf(code, number, Instr::Null(number)),
         Phrase::Usm(asp) => push_leaf(code, number, Instr::Usm(number, asp.copy())),
         Phrase::Kim(target, asp) => push_leaf(
             code,

@@ -1,4 +1,4 @@
-ghost use Rattle.avm_compile.specs.Laws.{NamesAreInOrder, NamedBlocksAreThere, MakesTheEvents, MakesEachEventOnce, CodeEndsOnce, StacksFit, HeightsAreLow, RemoteBlocksAreRequests};
+ghost use Rattle.avm_compile.specs.Laws.{NamesAreInOrder, NamedBlocksAreThere, PhrasesHaveBlocks, EachBlockIsAwaitedOnce, NamesAreUnlike, WaitingBlocksAreKnown, BlocksAreWhereEventsAre, CodeIsShort, MakesTheEvents, MakesEachEventOnce, CodeEndsOnce, StacksFit, HeightsAreLow, RemoteBlocksAreRequests};
 
 /// In the program of every phrase the root block comes first, at the session's place, and the names
 /// of the others rise and are numbers of events.
@@ -10,6 +10,27 @@ pub fn names_are_in_order()
 /// place that is asked or, for a right arm, at the place of the branch.
 pub fn named_blocks_are_there()
     ensures { NamedBlocksAreThere }
+{}
+
+/// The program of every phrase has exactly one block for each request, at the place that is asked and
+/// with the code of what it asks for, and one for each right arm of a parallel branch, at the place of
+/// the branch and with the code of the arm.
+pub fn phrases_have_blocks()
+    ensures { PhrasesHaveBlocks }
+{}
+
+/// In the program of every phrase no two blocks have one name, each block but the root's is awaited by
+/// exactly one instruction, and which block waits for it is a function of the program.
+pub fn blocks_are_awaited_once()
+    ensures once { EachBlockIsAwaitedOnce }
+    ensures unlike { NamesAreUnlike }
+    ensures known { WaitingBlocksAreKnown }
+{}
+
+/// In the program of every phrase each block is at the place of an event of the phrase: whatever all of
+/// these places have, such as a key, each block's place has too.
+pub fn blocks_are_where_events_are()
+    ensures { BlocksAreWhereEventsAre }
 {}
 
 /// The instructions of the program of a phrase make the events of the phrase, with their numbers,
@@ -24,8 +45,14 @@ pub fn code_ends_once()
     ensures { CodeEndsOnce }
 {}
 
-/// In the program of every sized phrase the height of a machine's stack is fixed at each place of a
-/// block's code: it has what each instruction takes, is 0 at the end, and is at most 65.
+/// In the program of every phrase each block has at most two instructions for each event of the phrase,
+/// and its end.
+pub fn code_is_short()
+    ensures { CodeIsShort }
+{}
+
+/// In the program of every sized phrase the height of a machine's stack is fixed at each instruction of
+/// a block's code: it is enough for what the instruction takes, 0 at the end, and at most 65.
 pub fn stacks_fit()
     ensures fit { StacksFit }
     ensures low { HeightsAreLow }

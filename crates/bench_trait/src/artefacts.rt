@@ -7,7 +7,7 @@ use std::alloc::{AllocError, Global};
 use std::collections::BTreeMap;
 use std::marker::Model;
 
-/// A thing to be measured: its bytes, by the place where it stands and its name there.
+/// A thing to be measured: its bytes, with the place where it is and its name there.
 #[derive(Debug, Drop)]
 pub struct Artefact {
     pub place: Place,
@@ -18,7 +18,7 @@ pub struct Artefact {
 /// Why an artefact was not added.
 #[derive(Clone, Copy, Debug, PartialEq, Eq)]
 pub enum BookError {
-    /// The book has one of that name at that place already, at this index.
+    /// The book already has one of that name at that place, at this index.
     Repeated { first: u32 },
     NoMemory,
 }
@@ -72,7 +72,7 @@ impl ArtefactBook {
         }
     }
 
-    /// The bytes of an artefact; none exactly where the book has none of that place and name.
+    /// The bytes of an artefact; none exactly when the book has none of that place and name.
     pub fn find(&self, place: Place, name: Name) -> Option<&[u8]>
         ensures { option_map (λ bytes. bytes.now) result ≡ artefact_bytes self.now place name }
     {

@@ -8,8 +8,8 @@ ghost use Rattle.bench_trait.specs.Seeking.{IsSought, MayPassOne, PassesOne, ask
 use crate::ask::{Ask, AskKind};
 use phrase_tree::{Asp, Phrase, Place};
 
-/// The question of an event of a phrase in a session with this root and nonce; none exactly where the
-/// event is no measurement of the phrase. Takes no memory, and time linear in the events up to it.
+/// The question of an event of a phrase in a session with this root and nonce; none exactly when the
+/// event is not a measurement of the phrase. Takes no memory, and time linear in the events up to it.
 pub fn ask_of(phrase: &Phrase, root: Place, nonce: &[u8; 16], event: u32) -> Option<Ask>
     requires { IsSized (term phrase.now) }
     ensures { result ≡ question (term phrase.now) root nonce.now event }
@@ -20,7 +20,7 @@ pub fn ask_of(phrase: &Phrase, root: Place, nonce: &[u8; 16], event: u32) -> Opt
     }
 }
 
-/// The question that was looked for, or the number behind the last event that was passed.
+/// The question that was looked for, or the number after the last event that was passed.
 #[derive(Drop)]
 enum Sought {
     Found(Ask),
@@ -35,7 +35,7 @@ fn seek(phrase: &Phrase, place: Place, first: u32, nonce: &[u8; 16], event: u32)
         (first + event_count (term phrase.now)) }
 {
     match phrase {
-        Phrase::Cpy | Phrase::Sig | Phrase::Hsh => Sought::Passed(first + 1),
+        Phrase::Cpy | Phrase::Sig | Phrase::Hsh | Phrase::Nul => Sought::Passed(first + 1),
         Phrase::Usm(asp) => measurement(nonce, first, place, AskKind::Usm, asp, event),
         Phrase::Kim(target, asp) => {
             measurement(nonce, first, place, AskKind::Kim(*target), asp, event)

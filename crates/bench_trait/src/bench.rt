@@ -32,7 +32,7 @@ pub trait Bench {
     /// The faults with which it fails at a question over these artefacts.
     ghost fails: { Self → List Artefact → Ask → BenchFault → Type 0 };
 
-    /// The questions over these artefacts that it may leave for want of memory.
+    /// The questions over these artefacts that it may leave unanswered for want of memory.
     ghost starves: { Self → List Artefact → Ask → Type 0 };
 
     /// Measures what the question asks for.

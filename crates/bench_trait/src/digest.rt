@@ -31,7 +31,7 @@ impl Bench for DigestBench {
     }
 }
 
-/// The place at which the artefact of a question stands.
+/// The place that has the artefact of a question.
 fn standing_at(ask: &Ask) -> Place
     ensures { result ≡ artefact_place ask.now.place ask.now.kind }
 {

@@ -1,7 +1,7 @@
-//! What measures: benches, the questions that they are asked, and the artefacts of a job. A bench is
+//! Benches, which measure, the questions that they are asked, and the artefacts of a job. A bench is
 //! known by three relations that its value fixes: which answers it gives, which faults it fails with,
-//! and which questions it may leave for want of memory. Code generic over a bench can show none of
-//! them but by asking it, so it can't make up an answer.
+//! and which questions it may leave unanswered for want of memory. Code that is generic over a bench
+//! can show none of them except by asking the bench, so it can't make up an answer.
 #![tactic(auto)]
 
 mod artefacts;

@@ -24,8 +24,8 @@ pub struct TableRow {
     pub outcome: TableResult,
 }
 
-/// A measurer that answers by the first row of the question's nonce and event, and without a row
-/// fails for want of an artefact. It looks at no artefacts.
+/// A measurer that answers by the first row for the question's nonce and event. If there is no such
+/// row, it fails as it would without an artefact. It looks at no artefacts.
 #[derive(Debug, Drop)]
 pub struct TableBench {
     rows: Vec<TableRow>,

@@ -30,7 +30,7 @@ impl Bytes {
         &self.bytes
     }
 
-    /// Appends a byte. An error is want of memory: it hands the byte back, and the list stays.
+    /// Appends a byte. An error is want of memory: it hands the byte back, and the list is unchanged.
     pub fn push(&mut self, item: u8) -> Result<(), u8>
         ensures ok { OnOk result (self.new ≡ self.old ++ item ∷ []) }
         ensures handed_back { IfErr result (λ byte. byte ≡ item) }

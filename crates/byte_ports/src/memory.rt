@@ -5,8 +5,8 @@ use crate::port::{PortFailed, Sink, Source};
 use std::alloc::Global;
 use std::marker::Model;
 
-/// How a port in memory behaves: how many bytes it gives or takes at most at one call, and which of
-/// its calls fail. Calls count from 0; past the last number of 64 bits all have that number.
+/// How a port in memory behaves: how many bytes it gives or takes at most in one call, and which of its
+/// calls fail. Calls are counted from 0; past the last number of 64 bits, all calls have that number.
 #[derive(Debug, Drop)]
 pub struct Behaviour {
     most: usize,
@@ -50,7 +50,8 @@ impl Behaviour {
         self.faults
     }
 
-    /// Counts a call for `len` bytes, and says how many of them it may have; an error where it fails.
+    /// Counts a call for `len` bytes, and says how many of them it may have; an error if the call
+    /// fails.
     fn call(&mut self, len: usize) -> Result<usize, PortFailed>
         ensures called { Calls self.old self.new result len }
         ensures some { IfOk result (λ count. 0 < len → 0 < count) }

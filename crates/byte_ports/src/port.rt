@@ -7,7 +7,7 @@ pub struct PortFailed;
 
 /// Bytes that come in.
 pub trait Source {
-    /// The bytes that are left, where the source tells them. Whether it does never changes.
+    /// The bytes that are left, if the source tells them. Whether it does never changes.
     ghost left: { Self → Option (List ℕ) };
 
     /// How many faults it met. The count never falls, and stands still at the last number of 64 bits.
@@ -25,14 +25,14 @@ pub trait Source {
 
 /// Bytes that go out.
 pub trait Sink {
-    /// The bytes that were taken, where the sink tells them. Whether it does never changes.
+    /// The bytes that were taken, if the sink tells them. Whether it does never changes.
     ghost taken: { Self → Option (List ℕ) };
 
     /// How many faults it met. The count never falls, and stands still at the last number of 64 bits.
     ghost faults: { Self → ℕ };
 
-    /// Takes one or more of the first bytes of `piece`, and says how many. A device that takes none
-    /// is at fault. After a fault nothing of this piece was taken.
+    /// Takes one or more of the first bytes of `piece`, and says how many. Taking none is a fault of
+    /// the device. After a fault, nothing of this piece was taken.
     fn write(&mut self, piece: &[u8]) -> Result<usize, PortFailed>
         requires { 0 < length piece.now }
         ensures count { IfOk result (λ count. count ≤ length piece.now) }

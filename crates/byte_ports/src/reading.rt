@@ -45,7 +45,7 @@ pub fn read_all<S: Source>(alloc: Global, source: &mut S, limit: u32) -> Result<
     Err(ReadAllError::TooLong)
 }
 
-/// Makes the buffer longer where it is full.
+/// Makes the buffer longer if it is full.
 fn make_room(buffer: &mut Vec<u8>, filled: usize) -> Result<(), AllocError>
     requires within { filled ≤ length buffer.old.items }
     requires small { filled < 2 ^ 32 }
@@ -59,7 +59,7 @@ fn make_room(buffer: &mut Vec<u8>, filled: usize) -> Result<(), AllocError>
     buffer.resize(filled + filled.max(FIRST_BUFFER), 0)
 }
 
-/// Reads into the buffer behind what is filled.
+/// Reads into the buffer, after the part that is filled.
 fn read_more<S: Source>(
     source: &mut S,
     buffer: &mut Vec<u8>,

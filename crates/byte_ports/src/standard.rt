@@ -5,8 +5,8 @@ ghost use Rattle.byte_ports.specs.Port.{Reads, Rose, Writes};
 use crate::port::{PortFailed, Sink, Source};
 use std::io::{Read, Write};
 
-/// Standard input as a source: a thin adapter over a reader, as that of `rt.reader()`. It tells
-/// nothing of the bytes.
+/// Standard input as a source: a thin adapter over a reader, such as that of `rt.reader()`. It does not
+/// tell its bytes.
 #[derive(Drop)]
 pub struct StdSource<R: Read + Drop> {
     reader: R,
@@ -16,7 +16,7 @@ pub struct StdSource<R: Read + Drop> {
 impl<R: Read + Drop> StdSource<R> {
     ghost use Rattle.byte_ports.specs.Standard.{reader_of, source_faults};
 
-    /// A source over this reader, which met no fault yet.
+    /// A source over this reader, which has met no fault yet.
     pub fn over(reader: R) -> StdSource<R>
         ensures reader { reader_of result ≡ reader }
         ensures new { source_faults result ≡ 0 }
@@ -51,8 +51,8 @@ impl<R: Read + Drop> Source for StdSource<R> {
     }
 }
 
-/// Standard output as a sink: a thin adapter over a writer, as that of `rt.stdout()`, which it
-/// flushes after each write. It tells nothing of the bytes.
+/// Standard output as a sink: a thin adapter over a writer, such as that of `rt.stdout()`, which it
+/// flushes after each write. It does not tell its bytes.
 #[derive(Drop)]
 pub struct StdSink<W: Write + Drop> {
     writer: W,
@@ -62,7 +62,7 @@ pub struct StdSink<W: Write + Drop> {
 impl<W: Write + Drop> StdSink<W> {
     ghost use Rattle.byte_ports.specs.Standard.{writer_of, sink_faults};
 
-    /// A sink over this writer, which met no fault yet.
+    /// A sink over this writer, which has met no fault yet.
     pub fn over(writer: W) -> StdSink<W>
         ensures writer { writer_of result ≡ writer }
         ensures new { sink_faults result ≡ 0 }

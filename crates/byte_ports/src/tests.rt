@@ -6,7 +6,7 @@ use std::alloc::{AllocError, Global};
 use std::io::{Error, ErrorKind, Read, Result as IoResult};
 use std::test::Fail;
 
-/// The bytes 0, 1, 2 and so on, as many as asked, which start again after 250.
+/// The bytes 0, 1, 2 and so on, as many as asked for; after 250 they start again.
 fn counting(alloc: Global, len: u32) -> Result<Vec<u8>, AllocError> {
     let mut bytes = vec![in alloc]?;
     for at in 0..len {

@@ -8,8 +8,8 @@ use crate::port::Sink;
 #[derive(Clone, Copy, Debug, PartialEq, Eq)]
 pub struct WriteFault;
 
-/// Writes all the bytes in order, and offers at each write all that is left. After a fault a prefix
-/// of them was taken. Takes no memory.
+/// Writes all the bytes in order, and offers all that is left at each write. After a fault, a prefix of
+/// them was taken. Takes no memory.
 pub fn write_all_of<K: Sink>(sink: &mut K, bytes: &[u8]) -> Result<(), WriteFault>
     ensures bytes { WritesAll (K.taken sink.old) (K.taken sink.new) result bytes.now }
     ensures faults { K.faults sink.old ≤ K.faults sink.new }

@@ -1,194 +1,247 @@
--- From what was decided and written to the answers of the program.
-use Rattle.std.proofs.Common.{◌≡◌, ◌⊎◌, ℕ, Bool, true, false, List, refl, sym, ap, ◌∙◌, inl, inr, arith, subst}
+-- From what was decided and concluded to the answers of the program.
+use Rattle.std.proofs.Common.{◌≡◌, ◌≢◌, ◌↔◌, ◌⊎◌, ◌≤◌, ℕ, List, length, refl, sym, ap, ◌∙◌, inl, inr, arith, subst}
 use Rattle.std.specs.Prelude.{Some}
-use Rattle.bench_trait.specs.declared.artefacts.Artefact.{Artefact}
-use Rattle.bench_trait.specs.declared.ask.Ask.{Ask}
-use Rattle.bench_trait.specs.declared.bench.BenchFault.{BenchFault}
-use Rattle.job_reader.specs.Finding.{Finding, JobView, accepted, refused}
+use Rattle.job_reader.specs.Finding.{Finding, IsFinding, JobView, accepted, refused}
 use Rattle.job_reader.specs.declared.refusal.JobError.{JobError}
 use Rattle.job_reader.specs.declared.refusal.JobError.TheVariants as errors
-use Rattle.report_text.specs.Refusal.{job_line, line_of}
+use Rattle.report_text.specs.Refusal.{line_of}
 use Rattle.report_text.specs.declared.refusal.Refusal.{Refusal}
-use Rattle.report_text.specs.declared.refusal.Refusal.TheVariants as refusal
-use Rattle.copland_cli.specs.Answer.{ComesAt, IsAnswer, IsUndisturbed, Runs, Told, unbuilt_line, WritesLine, WritesReport}
-use Rattle.copland_cli.specs.Concluded.{IsConcluded, reported_status}
-use Rattle.copland_cli.specs.Finding.{IsFinding}
-use Rattle.copland_cli.specs.Outcome.{IsDecided, IsReadSolely, IsRefusedRun, IsRun}
-use Rattle.copland_cli.specs.Reported.{IsReport}
-use Rattle.copland_cli.specs.Run.{Port, IsBadWords, IsBuilt, IsRead, IsTooLong}
-use Rattle.copland_cli.specs.Status.{job_status, status_of}
-use Rattle.copland_cli.specs.Words.{Spells}
+use Rattle.report_text.specs.declared.refusal.Refusal.TheVariants as refusals
+use Rattle.copland_cli.specs.Answer.{ComesAt, HasCause, IsAnswer, IsExact, IsGiven, IsReported, IsTooLongExactly, RefusesWith, ReportsWith}
+use Rattle.copland_cli.specs.Commands.{IsBuilt, input_of}
+use Rattle.copland_cli.specs.Concluded.{IsConcluded}
+use Rattle.copland_cli.specs.Input.{IsMade, IsReadAs, IsSolely, IsSubject, IsSubjectBy, IsUnreadable, IsWithoutSubject, IsWithoutSubjectBy, is_required}
+use Rattle.copland_cli.specs.Meaning.{IsDecisive, IsOfMeaning, IsReport, RefusesJob}
+use Rattle.copland_cli.specs.Outcome.{IsDecided, IsRun}
+use Rattle.copland_cli.specs.Port.{Port, IsTooLong, IsUnread, IsWithin, MetFault, TookAll, TookFront, TookLine, input_limit}
+use Rattle.copland_cli.specs.Reported.{Failing, Giving}
+use Rattle.copland_cli.specs.Status.{ending_status, job_status, status_of}
+use Rattle.copland_cli.specs.Words.{IsBadWords, Spells}
+use Rattle.copland_cli.specs.declared.ending.Ending.{Ending}
+use Rattle.copland_cli.specs.declared.ending.Ending.TheVariants as endings
+use Rattle.copland_cli.specs.declared.input.BundleNeed.{BundleNeed}
+use Rattle.copland_cli.specs.declared.input.Input.{Input}
+use Rattle.copland_cli.specs.declared.input.Input.TheVariants.{Nothing, Job}
 use Rattle.copland_cli.specs.declared.words.Command.{Command}
+use Rattle.copland_cli.specs.declared.outcome.Report.{Report}
 use Rattle.copland_cli.specs.declared.outcome.Outcome.{Outcome}
-use Rattle.copland_cli.specs.declared.outcome.Outcome.TheVariants.{Refused, Reported, Unbuilt}
+use Rattle.copland_cli.specs.declared.outcome.Outcome.TheVariants.{Refused, Reported}
 use Rattle.copland_cli.specs.declared.status.Status.{Status}
 use Rattle.copland_cli.specs.declared.status.Status.TheVariants as statuses
-use Rattle.copland_cli.proofs.PortLemmas.{not_both, whole, within}
-use Rattle.copland_cli.proofs.WordLemmas.{one_command, built-bad, built-unbuilt, bad-unbuilt}
+use Rattle.copland_cli.proofs.MeaningLemmas.{decisive}
+use Rattle.copland_cli.proofs.PortLemmas.{none_given, not_both, whole, within}
+use Rattle.copland_cli.proofs.WordLemmas.{one_command, built-unbuilt}
 
--- what reports say of a job
-abbrev Reporting : Type 1
-Reporting = JobView → List ℕ → Bool → Type 0
+-- ---- by statuses
 
--- the answers and the faults of a bench over artefacts
-abbrev Giving : Type 1
-Giving = List Artefact → Ask → List ℕ → Type 0
+moved : (Decided : Outcome → Type 0) (sink : Port) (one other : Status) → other ≡ one → HasCause Decided sink one → HasCause Decided sink other
+moved Decided sink one other same h = subst (λ (s : Status). HasCause Decided sink s) (sym same) h
 
-abbrev Failing : Type 1
-Failing = List Artefact → Ask → BenchFault → Type 0
+job_cause : (Decided : Outcome → Type 0) (sink : Port) (error : JobError) (status : Status) → ¬ Decided (Refused (refusals.Job errors.NoMemory)) → status ≡ job_status error → RefusesWith Decided sink (refusals.Job error) → HasCause Decided sink status
+job_cause Decided sink errors.NotJson status never is h = moved Decided sink statuses.NotJson status is h
+job_cause Decided sink (errors.BadJob at kind) status never is h = moved Decided sink statuses.BadJob status is (at, kind, h)
+job_cause Decided sink (errors.RepeatedPlace first second) status never is h = moved Decided sink statuses.RepeatedPlace status is (first, second, h)
+job_cause Decided sink (errors.RepeatedArtefact first second) status never is h = moved Decided sink statuses.RepeatedArtefact status is (first, second, h)
+job_cause Decided sink (errors.RepeatedReference first second) status never is h = moved Decided sink statuses.RepeatedReference status is (first, second, h)
+job_cause Decided sink (errors.BadRoot session) status never is h = moved Decided sink statuses.BadRoot status is (session, h)
+job_cause Decided sink (errors.RepeatedNonce first second) status never is h = moved Decided sink statuses.RepeatedNonce status is (first, second, h)
+job_cause Decided sink (errors.BadPhrase session at kind) status never is h = moved Decided sink statuses.BadPhrase status is (session, at, kind, h)
+job_cause Decided sink (errors.Misplaced session event kind) status never is h = moved Decided sink statuses.Misplaced status is (session, event, kind, h)
+job_cause Decided sink (errors.Oversize session event) status never is h = moved Decided sink statuses.Oversize status is (session, event, h)
+job_cause Decided sink errors.NoMemory status never is h = absurd (never h.0)
 
--- ---- the cause of each answer
+refusal_cause : (Decided : Outcome → Type 0) (sink : Port) (why : Refusal) (status : Status) → ¬ Decided (Refused (refusals.Job errors.NoMemory)) → status ≡ status_of why → RefusesWith Decided sink why → HasCause Decided sink status
+refusal_cause Decided sink refusals.Words status never is h = moved Decided sink statuses.BadWords status is h
+refusal_cause Decided sink refusals.Unbuilt status never is h = moved Decided sink statuses.Unbuilt status is h
+refusal_cause Decided sink refusals.ReadFault status never is h = moved Decided sink statuses.ReadFault status is h
+refusal_cause Decided sink refusals.TooLong status never is h = moved Decided sink statuses.TooLong status is h
+refusal_cause Decided sink (refusals.Job error) status never is h = job_cause Decided sink error status never is h
+refusal_cause Decided sink (refusals.NoReference event) status never is h = moved Decided sink statuses.NoReference status is (event, h)
+refusal_cause Decided sink (refusals.BadBundle at kind) status never is h = moved Decided sink statuses.BadBundle status is (inl (at, kind, h))
+refusal_cause Decided sink (refusals.BadShape node) status never is h = moved Decided sink statuses.BadBundle status is (inr (node, h))
+refusal_cause Decided sink refusals.NoMemory status never is h = moved Decided sink statuses.NoMemory status is h
 
-runs_at : (Reports : Reporting) (source sink : Port) (one other : Status) → other ≡ one → Runs Reports source sink one → Runs Reports source sink other
-runs_at Reports source sink one other same h = subst (λ (s : Status). Runs Reports source sink s) (sym same) h
+ending_cause : (Decided : Outcome → Type 0) (sink : Port) (ending : Ending) (status : Status) → status ≡ ending_status ending → ReportsWith Decided sink ending → HasCause Decided sink status
+ending_cause Decided sink endings.Good status is h = moved Decided sink statuses.Good status is h
+ending_cause Decided sink endings.SomeFailed status is h = moved Decided sink statuses.SomeFailed status is h
+ending_cause Decided sink endings.Rejected status is h = moved Decided sink statuses.Rejected status is h
 
--- the refusal of a job
-refuses_job : (Reports : Reporting) (source sink : Port) (error : JobError) (answer : Status) → IsReadSolely source (refused error) → answer ≡ job_status error → WritesLine sink (job_line error) → Runs Reports source sink answer
-refuses_job Reports source sink errors.NotJson answer found is line = runs_at Reports source sink statuses.NotJson answer is (errors.NotJson, (found.0, found.1, found.2.is), refl, line)
-refuses_job Reports source sink (errors.BadJob at kind) answer found is line = runs_at Reports source sink statuses.BadJob answer is ((errors.BadJob at kind), (found.0, found.1, found.2.is), refl, line)
-refuses_job Reports source sink (errors.RepeatedPlace first second) answer found is line = runs_at Reports source sink statuses.RepeatedPlace answer is ((errors.RepeatedPlace first second), (found.0, found.1, found.2.is), refl, line)
-refuses_job Reports source sink (errors.RepeatedArtefact first second) answer found is line = runs_at Reports source sink statuses.RepeatedArtefact answer is ((errors.RepeatedArtefact first second), (found.0, found.1, found.2.is), refl, line)
-refuses_job Reports source sink (errors.RepeatedReference first second) answer found is line = runs_at Reports source sink statuses.RepeatedReference answer is ((errors.RepeatedReference first second), (found.0, found.1, found.2.is), refl, line)
-refuses_job Reports source sink (errors.BadRoot session) answer found is line = runs_at Reports source sink statuses.BadRoot answer is ((errors.BadRoot session), (found.0, found.1, found.2.is), refl, line)
-refuses_job Reports source sink (errors.RepeatedNonce first second) answer found is line = runs_at Reports source sink statuses.RepeatedNonce answer is ((errors.RepeatedNonce first second), (found.0, found.1, found.2.is), refl, line)
-refuses_job Reports source sink (errors.BadPhrase session at kind) answer found is line = runs_at Reports source sink statuses.BadPhrase answer is ((errors.BadPhrase session at kind), (found.0, found.1, found.2.is), refl, line)
-refuses_job Reports source sink (errors.Misplaced session event kind) answer found is line = runs_at Reports source sink statuses.Misplaced answer is ((errors.Misplaced session event kind), (found.0, found.1, found.2.is), refl, line)
-refuses_job Reports source sink (errors.Oversize session event) answer found is line = runs_at Reports source sink statuses.Oversize answer is ((errors.Oversize session event), (found.0, found.1, found.2.is), refl, line)
-refuses_job Reports source sink errors.NoMemory answer found is line = absurd found.2.is
+cause : (Decided : Outcome → Type 0) (sink : Port) (outcome : Outcome) (status : Status) → ¬ Decided (Refused (refusals.Job errors.NoMemory)) → Decided outcome → IsConcluded sink outcome status → HasCause Decided sink status
+cause Decided sink (Refused why) status never h c = refusal_cause Decided sink why status never c.0 (h, c.1)
+cause Decided sink (Reported report) status never h (inl written) =
+    ending_cause Decided sink report.ending status written.0 (report, h, refl, written.1)
+cause Decided sink (Reported report) status never h (inr cut) =
+    moved Decided sink statuses.WriteFault status cut.0 (report, h, cut.1)
 
-line_as : (sink : Port) (one other : Refusal) → one ≡ other → WritesLine sink (line_of one) → WritesLine sink (line_of other)
-line_as sink one other same line = subst (λ (why : Refusal). WritesLine sink (line_of why)) same line
+-- ---- what a run never decides
 
-refused_run : (Reports : Reporting) (source sink : Port) (why : Refusal) (answer : Status) → IsRefusedRun source why → answer ≡ status_of why → WritesLine sink (line_of why) → Runs Reports source sink answer
-refused_run Reports source sink why answer (inl fault) is line =
-    runs_at Reports source sink statuses.ReadFault answer (is ∙ ap (λ r. status_of r) fault.2) (fault.0, line_as sink why refusal.ReadFault fault.2 line)
-refused_run Reports source sink why answer (inr (inl long)) is line =
-    runs_at Reports source sink statuses.TooLong answer (is ∙ ap (λ r. status_of r) long.1) (long.0, line_as sink why refusal.TooLong long.1 line)
-refused_run Reports source sink why answer (inr (inr (inl memory))) is line =
-    runs_at Reports source sink statuses.NoMemory answer (is ∙ ap (λ r. status_of r) memory.1) (line_as sink why refusal.NoMemory memory.1 line)
-refused_run Reports source sink why answer (inr (inr (inr found))) is line =
-    refuses_job Reports source sink found.0 answer found.1 (is ∙ ap (λ r. status_of r) found.2) (line_as sink why (refusal.Job found.0) found.2 line)
+-- a run's refusal is one of those before the command's meaning, or one of the meaning's own
+no_such_run : (Gives : Giving) (Fails : Failing) (command : Command) (source : Port) (why : Refusal) → IsBuilt command → ¬ IsOfMeaning why → ¬ IsWithoutSubject command source why → ¬ IsRun Gives Fails command source (Refused why)
+no_such_run Gives Fails command source why built early none (inl h) = none h
+no_such_run Gives Fails command source why built early none (inr h) =
+    early ((decisive Gives Fails command h.0 built).late why h.2)
 
-reported_run : (Reports : Reporting) (source sink : Port) (some_failed : Bool) (answer : Status) → answer ≡ reported_status some_failed → WritesReport Reports source sink some_failed → Runs Reports source sink answer
-reported_run Reports source sink false answer is h = runs_at Reports source sink statuses.Good answer is h
-reported_run Reports source sink true answer is h = runs_at Reports source sink statuses.SomeFailed answer is h
+not_words : (input : Input) (source : Port) → ¬ IsWithoutSubjectBy input source refusals.Words
+not_words Nothing source h = let e = h.0 in cc
+not_words (Job need) source h = h
 
-read_so : (source : Port) (finding : Finding) → IsReadSolely source finding → IsRead source finding
-read_so source finding found = (found.0, found.1, found.2.is)
+not_starved_job : (input : Input) (source : Port) → ¬ IsWithoutSubjectBy input source (refusals.Job errors.NoMemory)
+not_starved_job Nothing source h = let e = h.0 in cc
+not_starved_job (Job need) source h = h.2.is
 
-pub run_answer : (Reports : Reporting) (source sink : Port) (outcome : Outcome) (answer : Status) → IsRun Reports source outcome → IsConcluded sink outcome answer → Runs Reports source sink answer
-run_answer Reports source sink (Refused why) answer h c = refused_run Reports source sink why answer h c.0 c.1
-run_answer Reports source sink Unbuilt answer h c = absurd h
-run_answer Reports source sink (Reported report) answer h (inl whole_text) =
-    reported_run Reports source sink report.some_failed answer whole_text.0 (h.0, report.text, read_so source (accepted h.0) h.1, h.2, whole_text.1)
-run_answer Reports source sink (Reported report) answer h (inr fault) =
-    runs_at Reports source sink statuses.WriteFault answer fault.0 (h.0, report.text, report.some_failed, read_so source (accepted h.0) h.1, h.2, fault.1, fault.2)
+never_starved_job : (Known : Command → Type 0) (Gives : Giving) (Fails : Failing) (words : List (List ℕ)) (source : Port) → ¬ IsDecided Known Gives Fails words source (Refused (refusals.Job errors.NoMemory))
+never_starved_job Known Gives Fails words source (inl run) =
+    no_such_run Gives Fails run.0 source (refusals.Job errors.NoMemory) run.3 (λ h. h) (not_starved_job (input_of run.0) source) run.4
+never_starved_job Known Gives Fails words source (inr (inl bad)) = let e = bad.2 in cc
+never_starved_job Known Gives Fails words source (inr (inr unbuilt)) = let e = unbuilt.5 in cc
 
-refused_line : (sink : Port) (why : Refusal) (outcome : Outcome) (answer : Status) → outcome ≡ Refused why → IsConcluded sink outcome answer → (answer ≡ status_of why) × WritesLine sink (line_of why)
-refused_line sink why outcome answer is c = subst (λ (o : Outcome). IsConcluded sink o answer) is c
-
-unbuilt_so : (sink : Port) (outcome : Outcome) (answer : Status) → outcome ≡ Unbuilt → IsConcluded sink outcome answer → (answer ≡ statuses.Unbuilt) × WritesLine sink unbuilt_line
-unbuilt_so sink outcome answer is c = subst (λ (o : Outcome). IsConcluded sink o answer) is c
-
--- the run of the command that the words spell is that of any command that they spell
-run_of : (Gives : Giving) (Fails : Failing) (words : List (List ℕ)) (source : Port) (outcome : Outcome) (one other : Command) → Spells words one → Spells words other → IsRun (IsReport Gives Fails one) source outcome → IsRun (IsReport Gives Fails other) source outcome
-run_of Gives Fails words source outcome one other h k run =
-    subst (λ (command : Command). IsRun (IsReport Gives Fails command) source outcome) (one_command words one other h k) run
-
-pub answers : (Gives : Giving) (Fails : Failing) (words : List (List ℕ)) (source sink : Port) (outcome : Outcome) (answer : Status) → IsDecided Gives Fails words source outcome → IsConcluded sink outcome answer → IsAnswer Gives Fails words source sink answer
-answers Gives Fails words source sink outcome answer (inl run) c = record {
-  built = λ command spelled built. run_answer (IsReport Gives Fails command) source sink outcome answer (run_of Gives Fails words source outcome run.0 command run.1 spelled run.3) c;
-  bad = λ bad. absurd (built-bad words run.0 run.1 run.2 bad);
-  unbuilt = λ command spelled unbuilt. absurd (built-unbuilt words run.0 command run.1 run.2 spelled unbuilt);
-}
-answers Gives Fails words source sink outcome answer (inr (inl bad)) c =
-    let line = refused_line sink refusal.Words outcome answer bad.2 c in record {
-      built = λ command spelled built. absurd (built-bad words command spelled built bad.0);
-      bad = λ again. (line.0, bad.1, line.1);
-      unbuilt = λ command spelled unbuilt. absurd (bad-unbuilt words command bad.0 spelled unbuilt);
-    }
-answers Gives Fails words source sink outcome answer (inr (inr unbuilt)) c =
-    let line = unbuilt_so sink outcome answer unbuilt.4 c in record {
-      built = λ command spelled built. absurd (built-unbuilt words command unbuilt.0 spelled built unbuilt.1 unbuilt.2);
-      bad = λ bad. absurd (bad-unbuilt words unbuilt.0 bad unbuilt.1 unbuilt.2);
-      unbuilt = λ command spelled again. (line.0, unbuilt.3, line.1);
-    }
+pub causes : (Known : Command → Type 0) (Gives : Giving) (Fails : Failing) (words : List (List ℕ)) (source sink : Port) (outcome : Outcome) (status : Status) → IsDecided Known Gives Fails words source outcome → IsConcluded sink outcome status → HasCause (IsDecided Known Gives Fails words source) sink status
+causes Known Gives Fails words source sink outcome status h c =
+    cause (IsDecided Known Gives Fails words source) sink outcome status (never_starved_job Known Gives Fails words source) h c
 
 -- ---- bad words, both ways
 
-no_run_of_bad : (Reports : Reporting) (source sink : Port) (answer : Status) → answer ≡ statuses.BadWords → Runs Reports source sink answer → ⊥
-no_run_of_bad Reports source sink answer is h = subst (λ (s : Status). Runs Reports source sink s) is h
+words_are_bad : (Known : Command → Type 0) (Gives : Giving) (Fails : Failing) (words : List (List ℕ)) (source : Port) → IsDecided Known Gives Fails words source (Refused refusals.Words) → IsBadWords Known words
+words_are_bad Known Gives Fails words source (inl run) =
+    absurd (no_such_run Gives Fails run.0 source refusals.Words run.3 (λ h. h) (not_words (input_of run.0) source) run.4)
+words_are_bad Known Gives Fails words source (inr (inl bad)) = bad.0
+words_are_bad Known Gives Fails words source (inr (inr unbuilt)) = let e = unbuilt.5 in cc
 
-pub bad_words : (Gives : Giving) (Fails : Failing) (words : List (List ℕ)) (source sink : Port) (outcome : Outcome) (answer : Status) → IsDecided Gives Fails words source outcome → IsConcluded sink outcome answer → answer ≡ statuses.BadWords → IsBadWords words
-bad_words Gives Fails words source sink outcome answer (inl run) c is =
-    absurd (no_run_of_bad (IsReport Gives Fails run.0) source sink answer is (run_answer (IsReport Gives Fails run.0) source sink outcome answer run.3 c))
-bad_words Gives Fails words source sink outcome answer (inr (inl bad)) c is = bad.0
-bad_words Gives Fails words source sink outcome answer (inr (inr unbuilt)) c is =
-    absurd (let line = unbuilt_so sink outcome answer unbuilt.4 c in let e = line.0 in cc)
+refused_so : (sink : Port) (why : Refusal) (outcome : Outcome) (status : Status) → outcome ≡ Refused why → IsConcluded sink outcome status → status ≡ status_of why
+refused_so sink why outcome status same c =
+    let h : IsConcluded sink (Refused why) status = subst (λ (o : Outcome). IsConcluded sink o status) same c in h.0
 
--- ---- each answer to a job comes exactly where its bytes call for it
+bad_so : (Known : Command → Type 0) (Gives : Giving) (Fails : Failing) (words : List (List ℕ)) (source sink : Port) (outcome : Outcome) (status : Status) → IsDecided Known Gives Fails words source outcome → IsConcluded sink outcome status → IsBadWords Known words → status ≡ statuses.BadWords
+bad_so Known Gives Fails words source sink outcome status (inl run) c bad = absurd (bad run.0 run.1 run.2)
+bad_so Known Gives Fails words source sink outcome status (inr (inl same)) c bad = refused_so sink refusals.Words outcome status same.2 c
+bad_so Known Gives Fails words source sink outcome status (inr (inr unbuilt)) c bad = absurd (bad unbuilt.0 unbuilt.1 unbuilt.2)
 
--- what was read to its end is what was told, and nothing else
-same_finding : (source : Port) (finding other : Finding) → Told source finding → IsReadSolely source other → other ≡ finding
-same_finding source finding other told found =
-    let same = whole source.bytes_before source.bytes_after told.bytes found.0 told.told found.1.given found.1.ended in
-    found.2.only finding (subst (λ (b : List ℕ). IsFinding b finding) (sym same) told.kind)
+pub bad_words : (Known : Command → Type 0) (Gives : Giving) (Fails : Failing) (words : List (List ℕ)) (source sink : Port) (outcome : Outcome) (status : Status) → IsDecided Known Gives Fails words source outcome → IsConcluded sink outcome status → (status ≡ statuses.BadWords) ↔ IsBadWords Known words
+bad_words Known Gives Fails words source sink outcome status h c = (
+  λ is. words_are_bad Known Gives Fails words source (subst (λ (s : Status). HasCause (IsDecided Known Gives Fails words source) sink s) is (causes Known Gives Fails words source sink outcome status h c)).0,
+  bad_so Known Gives Fails words source sink outcome status h c,
+)
 
-comes_at : (finding other : Finding) (answer : Status) → other ≡ finding → ComesAt other answer → ComesAt finding answer
-comes_at finding other answer same h = subst (λ (f : Finding). ComesAt f answer) same h
+-- ---- the run of the command that the words spell
 
-exact_refused : (source sink : Port) (why : Refusal) (answer : Status) (finding : Finding) → IsRefusedRun source why → answer ≡ status_of why → Told source finding → IsUndisturbed source sink answer → ComesAt finding answer
-exact_refused source sink why answer finding (inl fault) is told calm = absurd (calm.source_kept fault.0)
-exact_refused source sink why answer finding (inr (inl long)) is told calm =
-    absurd (let few = within source.bytes_before source.bytes_after told.bytes long.0.0 told.told long.0.1 in omega (arith, few, told.short, long.0.2))
-exact_refused source sink why answer finding (inr (inr (inl memory))) is told calm =
-    absurd (calm.memory (is ∙ ap (λ r. status_of r) memory.1))
-exact_refused source sink why answer finding (inr (inr (inr found))) is told calm =
-    comes_at finding (refused found.0) answer (same_finding source finding (refused found.0) told found.1) (is ∙ ap (λ r. status_of r) found.2)
+run_of : (Known : Command → Type 0) (Gives : Giving) (Fails : Failing) (words : List (List ℕ)) (source : Port) (outcome : Outcome) (command : Command) → IsDecided Known Gives Fails words source outcome → Spells words command → Known command → IsBuilt command → IsRun Gives Fails command source outcome
+run_of Known Gives Fails words source outcome command (inl run) spelled known built =
+    subst (λ (one : Command). IsRun Gives Fails one source outcome) (one_command words run.0 command run.1 spelled) run.4
+run_of Known Gives Fails words source outcome command (inr (inl bad)) spelled known built = absurd (bad.0 command spelled known)
+run_of Known Gives Fails words source outcome command (inr (inr unbuilt)) spelled known built =
+    absurd (built-unbuilt words command unbuilt.0 spelled built unbuilt.1 unbuilt.3)
 
-reported_well : (some_failed : Bool) (answer : Status) → answer ≡ reported_status some_failed → (answer ≡ statuses.Good) ⊎ (answer ≡ statuses.SomeFailed)
-reported_well false answer is = inl is
-reported_well true answer is = inr is
+-- ---- each answer comes exactly where what is given calls for it
 
-exact_run : (Reports : Reporting) (source sink : Port) (outcome : Outcome) (answer : Status) (finding : Finding) → IsRun Reports source outcome → IsConcluded sink outcome answer → Told source finding → IsUndisturbed source sink answer → ComesAt finding answer
-exact_run Reports source sink (Refused why) answer finding h c told calm = exact_refused source sink why answer finding h c.0 told calm
-exact_run Reports source sink Unbuilt answer finding h c told calm = absurd h
-exact_run Reports source sink (Reported report) answer finding h (inl whole_text) told calm =
-    comes_at finding (accepted h.0) answer (same_finding source finding (accepted h.0) told h.1)
-    (reported_well report.some_failed answer whole_text.0)
-exact_run Reports source sink (Reported report) answer finding h (inr fault) told calm = absurd (calm.sink_kept fault.1)
+-- what was read is what was told
+same_finding : (need : BundleNeed) (source : Port) (bytes : List ℕ) (finding other : Finding) → source.bytes_before ≡ Some bytes → IsFinding bytes (is_required need) finding → IsReadAs need source other → other ≡ finding
+same_finding need source bytes finding other told is read =
+    let same = whole source.bytes_before source.bytes_after bytes read.0 told read.1.given read.1.ended in
+    read.2.only finding (subst (λ (b : List ℕ). IsFinding b (is_required need) finding) (sym same) is)
 
-pub exact : (Gives : Giving) (Fails : Failing) (words : List (List ℕ)) (source sink : Port) (outcome : Outcome) (answer : Status) (finding : Finding) (command : Command) → IsDecided Gives Fails words source outcome → IsConcluded sink outcome answer → Spells words command → IsBuilt command → Told source finding → IsUndisturbed source sink answer → ComesAt finding answer
-exact Gives Fails words source sink outcome answer finding command (inl run) c spelled built told calm =
-    exact_run (IsReport Gives Fails run.0) source sink outcome answer finding run.3 c told calm
-exact Gives Fails words source sink outcome answer finding command (inr (inl bad)) c spelled built told calm =
-    absurd (built-bad words command spelled built bad.0)
-exact Gives Fails words source sink outcome answer finding command (inr (inr unbuilt)) c spelled built told calm =
-    absurd (built-unbuilt words command unbuilt.0 spelled built unbuilt.1 unbuilt.2)
+-- what is known of the run of a command that is given this
+record Calm (source : Port) (status : Status) : Type 0 where
+  kept : ¬ MetFault source
+  memory : status ≢ statuses.NoMemory
+
+comes_so : (Gives : Giving) (Fails : Failing) (command : Command) (sink : Port) (one other : Finding) (status : Status) → one ≡ other → ComesAt Gives Fails command sink one status → ComesAt Gives Fails command sink other status
+comes_so Gives Fails command sink one other status same h =
+    subst (λ (f : Finding). ComesAt Gives Fails command sink f status) same h
+
+-- the subject is the job that is given
+same_subject : (input : Input) (command : Command) (source : Port) (finding : Finding) (job : JobView) → IsGiven input command source finding → IsSubjectBy input command source job → accepted job ≡ finding
+same_subject Nothing command source (accepted made) job given subject = absurd given
+same_subject Nothing command source (refused error) job given subject = absurd given
+same_subject (Job need) command source finding job given subject =
+    same_finding need source given.0 finding (accepted job) given.1 given.3 subject
+
+exact_unreadable : (Gives : Giving) (Fails : Failing) (command : Command) (need : BundleNeed) (source sink : Port) (why : Refusal) (status : Status) (finding : Finding) → (bytes : List ℕ) → source.bytes_before ≡ Some bytes → length bytes ≤ input_limit → IsFinding bytes (is_required need) finding → Calm source status → status ≡ status_of why → IsUnreadable need source why → ComesAt Gives Fails command sink finding status
+exact_unreadable Gives Fails command need source sink refusals.Words status finding bytes told short is calm at h = absurd h
+exact_unreadable Gives Fails command need source sink refusals.Unbuilt status finding bytes told short is calm at h = absurd h
+exact_unreadable Gives Fails command need source sink refusals.ReadFault status finding bytes told short is calm at h = absurd (calm.kept h.0)
+exact_unreadable Gives Fails command need source sink refusals.TooLong status finding bytes told short is calm at h =
+    absurd (let few = within source.bytes_before source.bytes_after bytes h.0 told h.1 in omega (arith, few, short, h.2))
+exact_unreadable Gives Fails command need source sink (refusals.Job error) status finding bytes told short is calm at h =
+    comes_so Gives Fails command sink (refused error) finding status (same_finding need source bytes finding (refused error) told is h) at
+exact_unreadable Gives Fails command need source sink (refusals.NoReference event) status finding bytes told short is calm at h = absurd h
+exact_unreadable Gives Fails command need source sink (refusals.BadBundle place kind) status finding bytes told short is calm at h = absurd h
+exact_unreadable Gives Fails command need source sink (refusals.BadShape node) status finding bytes told short is calm at h = absurd h
+exact_unreadable Gives Fails command need source sink refusals.NoMemory status finding bytes told short is calm at h = absurd (calm.memory at)
+
+exact_without : (Gives : Giving) (Fails : Failing) (command : Command) (input : Input) (source sink : Port) (why : Refusal) (status : Status) (finding : Finding) → IsGiven input command source finding → Calm source status → status ≡ status_of why → IsWithoutSubjectBy input source why → ComesAt Gives Fails command sink finding status
+exact_without Gives Fails command Nothing source sink why status finding given calm at h = absurd (calm.memory (at ∙ ap (λ w. status_of w) h.0))
+exact_without Gives Fails command (Job need) source sink why status finding given calm at h =
+    exact_unreadable Gives Fails command need source sink why status finding given.0 given.1 given.2 given.3 calm at h
+
+reported : (sink : Port) (report : Report) (status : Status) → IsConcluded sink (Reported report) status → IsReported sink status
+reported sink report status (inl written) = inl (report.ending, written.0)
+reported sink report status (inr cut) = inr (cut.0, cut.1.0)
+
+exact_run : (Gives : Giving) (Fails : Failing) (command : Command) (source sink : Port) (outcome : Outcome) (status : Status) (finding : Finding) → IsBuilt command → IsGiven (input_of command) command source finding → Calm source status → IsRun Gives Fails command source outcome → IsConcluded sink outcome status → ComesAt Gives Fails command sink finding status
+exact_run Gives Fails command source sink (Refused why) status finding built given calm (inl h) c =
+    exact_without Gives Fails command (input_of command) source sink why status finding given calm c.0 h
+exact_run Gives Fails command source sink (Refused why) status finding built given calm (inr h) c =
+    let law = decisive Gives Fails command h.0 built in
+    comes_so Gives Fails command sink (accepted h.0) finding status (same_subject (input_of command) command source finding h.0 given h.1) (
+      λ other refuses. c.0 ∙ ap (λ w. status_of w) (law.one_refusal why other h.2 refuses),
+      λ none. absurd (none why h.2),
+    )
+exact_run Gives Fails command source sink (Reported report) status finding built given calm h c =
+    let law = decisive Gives Fails command h.0 built in
+    comes_so Gives Fails command sink (accepted h.0) finding status (same_subject (input_of command) command source finding h.0 given h.1) (
+      λ why refuses. absurd (law.not_both why report.text report.ending refuses h.2),
+      λ none. reported sink report status c,
+    )
+
+pub exact : (Known : Command → Type 0) (Gives : Giving) (Fails : Failing) (words : List (List ℕ)) (source sink : Port) (outcome : Outcome) (status : Status) → IsDecided Known Gives Fails words source outcome → IsConcluded sink outcome status → IsExact Known Gives Fails words source sink status
+exact Known Gives Fails words source sink outcome status h c = λ command finding spelled known built kept memory given.
+    exact_run Gives Fails command source sink outcome status finding built given (record { kept = kept; memory = memory })
+    (run_of Known Gives Fails words source outcome command h spelled known built) c
 
 -- ---- too long, both ways
 
-few_refused : (source : Port) (left : List ℕ) (why : Refusal) (answer : Status) → IsRefusedRun source why → answer ≡ status_of why → source.bytes_before ≡ Some left → IsTooLong source → answer ≡ statuses.TooLong
-few_refused source left why answer (inl fault) is told long = absurd (not_both source left fault.1.0 told long fault.1.1 fault.1.2)
-few_refused source left why answer (inr (inl over)) is told long = is ∙ ap (λ r. status_of r) over.1
-few_refused source left why answer (inr (inr (inl memory))) is told long = absurd (not_both source left memory.0.0 told long memory.0.1 memory.0.2)
-few_refused source left why answer (inr (inr (inr found))) is told long =
-    absurd (not_both source left found.1.0 told long found.1.1.given found.1.1.short)
+long_unreadable : (need : BundleNeed) (source : Port) (left : List ℕ) (why : Refusal) (status : Status) → source.bytes_before ≡ Some left → IsTooLong source → status ≡ status_of why → IsUnreadable need source why → status ≡ statuses.TooLong
+long_unreadable need source left refusals.Words status told long at h = absurd h
+long_unreadable need source left refusals.Unbuilt status told long at h = absurd h
+long_unreadable need source left refusals.ReadFault status told long at h = absurd (not_both source left h.1.0 told long h.1.1 h.1.2)
+long_unreadable need source left refusals.TooLong status told long at h = at
+long_unreadable need source left (refusals.Job error) status told long at h = absurd (not_both source left h.0 told long h.1.given h.1.short)
+long_unreadable need source left (refusals.NoReference event) status told long at h = absurd h
+long_unreadable need source left (refusals.BadBundle place kind) status told long at h = absurd h
+long_unreadable need source left (refusals.BadShape node) status told long at h = absurd h
+long_unreadable need source left refusals.NoMemory status told long at h = absurd (not_both source left h.0 told long h.1 h.2)
 
-long_run : (Reports : Reporting) (source sink : Port) (outcome : Outcome) (answer : Status) (left : List ℕ) → IsRun Reports source outcome → IsConcluded sink outcome answer → source.bytes_before ≡ Some left → IsTooLong source → answer ≡ statuses.TooLong
-long_run Reports source sink (Refused why) answer left h c told long = few_refused source left why answer h c.0 told long
-long_run Reports source sink Unbuilt answer left h c told long = absurd h
-long_run Reports source sink (Reported report) answer left h c told long = absurd (not_both source left h.1.0 told long h.1.1.given h.1.1.short)
+long_without : (input : Input) (source : Port) (left : List ℕ) (why : Refusal) (status : Status) → source.bytes_before ≡ Some left → IsTooLong source → status ≡ status_of why → IsWithoutSubjectBy input source why → status ≡ statuses.TooLong
+long_without Nothing source left why status told long at h = absurd (none_given source left told long h.1)
+long_without (Job need) source left why status told long at h = long_unreadable need source left why status told long at h
 
-is_long : (Reports : Reporting) (source sink : Port) (answer : Status) → answer ≡ statuses.TooLong → Runs Reports source sink answer → IsTooLong source
-is_long Reports source sink answer is h = (subst (λ (s : Status). Runs Reports source sink s) is h).0
+not_long_subject : (input : Input) (command : Command) (source : Port) (left : List ℕ) (job : JobView) → source.bytes_before ≡ Some left → IsTooLong source → ¬ IsSubjectBy input command source job
+not_long_subject Nothing command source left job told long h = none_given source left told long h.1
+not_long_subject (Job need) command source left job told long h = not_both source left h.0 told long h.1.given h.1.short
 
-pub too_long : (Gives : Giving) (Fails : Failing) (words : List (List ℕ)) (source sink : Port) (outcome : Outcome) (answer : Status) (left : List ℕ) (command : Command) → IsDecided Gives Fails words source outcome → IsConcluded sink outcome answer → Spells words command → IsBuilt command → source.bytes_before ≡ Some left → (answer ≡ statuses.TooLong → IsTooLong source) × (IsTooLong source → answer ≡ statuses.TooLong)
-too_long Gives Fails words source sink outcome answer left command (inl run) c spelled built told = (
-  λ is. is_long (IsReport Gives Fails run.0) source sink answer is (run_answer (IsReport Gives Fails run.0) source sink outcome answer run.3 c),
-  λ long. long_run (IsReport Gives Fails run.0) source sink outcome answer left run.3 c told long,
+long_run : (Gives : Giving) (Fails : Failing) (command : Command) (source sink : Port) (left : List ℕ) (outcome : Outcome) (status : Status) → source.bytes_before ≡ Some left → IsTooLong source → IsRun Gives Fails command source outcome → IsConcluded sink outcome status → status ≡ statuses.TooLong
+long_run Gives Fails command source sink left (Refused why) status told long (inl h) c =
+    long_without (input_of command) source left why status told long c.0 h
+long_run Gives Fails command source sink left (Refused why) status told long (inr h) c =
+    absurd (not_long_subject (input_of command) command source left h.0 told long h.1)
+long_run Gives Fails command source sink left (Reported report) status told long h c =
+    absurd (not_long_subject (input_of command) command source left h.0 told long h.1)
+
+long_source : (input : Input) (source : Port) → IsWithoutSubjectBy input source refusals.TooLong → IsTooLong source
+long_source Nothing source h = absurd (let e = h.0 in cc)
+long_source (Job need) source h = h
+
+long_decided_run : (Gives : Giving) (Fails : Failing) (command : Command) (source : Port) → IsBuilt command → IsRun Gives Fails command source (Refused refusals.TooLong) → IsTooLong source
+long_decided_run Gives Fails command source built (inl h) = long_source (input_of command) source h
+long_decided_run Gives Fails command source built (inr h) = absurd ((decisive Gives Fails command h.0 built).late refusals.TooLong h.2)
+
+long_decided : (Known : Command → Type 0) (Gives : Giving) (Fails : Failing) (words : List (List ℕ)) (source : Port) → IsDecided Known Gives Fails words source (Refused refusals.TooLong) → IsTooLong source
+long_decided Known Gives Fails words source (inl run) = long_decided_run Gives Fails run.0 source run.3 run.4
+long_decided Known Gives Fails words source (inr (inl bad)) = absurd (let e = bad.2 in cc)
+long_decided Known Gives Fails words source (inr (inr unbuilt)) = absurd (let e = unbuilt.5 in cc)
+
+pub too_long : (Known : Command → Type 0) (Gives : Giving) (Fails : Failing) (words : List (List ℕ)) (source sink : Port) (outcome : Outcome) (status : Status) → IsDecided Known Gives Fails words source outcome → IsConcluded sink outcome status → IsTooLongExactly Known words source status
+too_long Known Gives Fails words source sink outcome status h c = λ command left spelled known built told. (
+  λ is. long_decided Known Gives Fails words source (subst (λ (s : Status). HasCause (IsDecided Known Gives Fails words source) sink s) is (causes Known Gives Fails words source sink outcome status h c)).0,
+  λ long. long_run Gives Fails command source sink left outcome status told long (run_of Known Gives Fails words source outcome command h spelled known built) c,
 )
-too_long Gives Fails words source sink outcome answer left command (inr (inl bad)) c spelled built told =
-    absurd (built-bad words command spelled built bad.0)
-too_long Gives Fails words source sink outcome answer left command (inr (inr unbuilt)) c spelled built told =
-    absurd (built-unbuilt words command unbuilt.0 spelled built unbuilt.1 unbuilt.2)

@@ -1,6 +1,7 @@
 pub mod WordLemmas
 pub mod PortLemmas
+pub mod MeaningLemmas
 pub mod OutcomeLemmas
-pub mod WeightLemmas
 pub mod ReportedLemmas
 pub mod AnswerLemmas
+pub mod FunctionLemmas

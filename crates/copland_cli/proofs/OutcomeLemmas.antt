@@ -1,38 +1,62 @@
--- From what bytes decide to what the source decides that gave them.
-use Rattle.std.proofs.Common.{◌≡◌, ◌↔◌, ◌⊎◌, ℕ, Bool, List, inl, inr, refl}
+-- From the job that was read to what a command decides.
+use Rattle.std.proofs.Common.{◌≡◌, ◌↔◌, ◌⊎◌, ℕ, Bool, List, inl, inr, refl, ap, sym, subst}
 use Rattle.std.specs.Prelude.{Err}
 use Rattle.job_reader.specs.Accepted.{UnlessNoMemory}
-use Rattle.job_reader.specs.Finding.{Finding, JobView, refused}
+use Rattle.job_reader.specs.Finding.{Finding, IsFinding, JobView, accepted, refused}
 use Rattle.job_reader.specs.declared.refusal.JobError.{JobError}
 use Rattle.job_reader.specs.declared.refusal.JobError.TheVariants as errors
 use Rattle.report_text.specs.declared.refusal.Refusal.{Refusal}
-use Rattle.report_text.specs.declared.refusal.Refusal.TheVariants.{NoMemory, Job as JobRefused}
-use Rattle.copland_cli.specs.Finding.{IsFinding, IsSolely}
-use Rattle.copland_cli.specs.Outcome.{IsRefusalFor, IsRun, IsRunOf}
-use Rattle.copland_cli.specs.Run.{Port, IsInput}
+use Rattle.report_text.specs.declared.refusal.Refusal.TheVariants.{Words, Unbuilt, ReadFault, TooLong, Job as JobRefused, NoReference, BadBundle, BadShape, NoMemory}
+use Rattle.copland_cli.specs.Commands.{IsBuilt, input_of}
+use Rattle.copland_cli.specs.Input.{IsReadAs, IsRefusalFor, IsRefusedOver, IsSolely, IsSubject, IsSubjectBy, IsUnreadable, IsWithoutSubject, IsWithoutSubjectBy, is_required}
+use Rattle.copland_cli.specs.Meaning.{IsReport, RefusesJob, SaysIn}
+use Rattle.copland_cli.specs.Outcome.{IsMeant, IsRun}
+use Rattle.copland_cli.specs.Port.{Port, IsWhole}
+use Rattle.copland_cli.specs.Reported.{Failing, Giving, ReportsEach}
+use Rattle.copland_cli.specs.declared.ending.Ending.{Ending}
+use Rattle.copland_cli.specs.declared.input.BundleNeed.{BundleNeed}
+use Rattle.copland_cli.specs.declared.input.Input.{Input}
+use Rattle.copland_cli.specs.declared.input.Input.TheVariants.{Nothing, Job}
+use Rattle.copland_cli.specs.declared.words.Command.{Command}
+use Rattle.copland_cli.specs.declared.words.Command.TheVariants.{Check, Shape, Events, Code, Eval, Walk, Attest, Appraise, Load}
 use Rattle.copland_cli.specs.declared.outcome.Outcome.{Outcome}
-use Rattle.copland_cli.specs.declared.outcome.Outcome.TheVariants.{Refused, Reported, Unbuilt}
+use Rattle.copland_cli.specs.declared.outcome.Outcome.TheVariants.{Refused, Reported}
 
-pub run_over : (Reports : JobView → List ℕ → Bool → Type 0) (source : Port) (bytes : List ℕ) (outcome : Outcome) → IsInput source bytes → IsRunOf Reports bytes outcome → IsRun Reports source outcome
-run_over Reports source bytes (Refused why) input (inl memory) = inr (inr (inl ((bytes, input.given, input.short), memory)))
-run_over Reports source bytes (Refused why) input (inr found) = inr (inr (inr (found.0, (bytes, input, found.1), found.2)))
-run_over Reports source bytes Unbuilt input h = absurd h
-run_over Reports source bytes (Reported report) input h = (h.0, (bytes, input, h.1), h.2)
+-- the refusal of a job, where want of memory is none
+solely : (bytes : List ℕ) (need : BundleNeed) (error : JobError) → ¬ (error ≡ errors.NoMemory) → UnlessNoMemory (Err error) (IsFinding bytes (is_required need) (refused error)) → ((finding : Finding) → UnlessNoMemory (Err error) ((refused error ≡ finding) ↔ IsFinding bytes (is_required need) finding)) → IsSolely bytes need (refused error)
+solely bytes need errors.NoMemory some found exact = absurd (some refl)
+solely bytes need errors.NotJson some found exact = record { is = found; only = λ other h. (exact other).1 h }
+solely bytes need (errors.BadJob at kind) some found exact = record { is = found; only = λ other h. (exact other).1 h }
+solely bytes need (errors.RepeatedPlace first second) some found exact = record { is = found; only = λ other h. (exact other).1 h }
+solely bytes need (errors.RepeatedArtefact first second) some found exact = record { is = found; only = λ other h. (exact other).1 h }
+solely bytes need (errors.RepeatedReference first second) some found exact = record { is = found; only = λ other h. (exact other).1 h }
+solely bytes need (errors.BadRoot session) some found exact = record { is = found; only = λ other h. (exact other).1 h }
+solely bytes need (errors.RepeatedNonce first second) some found exact = record { is = found; only = λ other h. (exact other).1 h }
+solely bytes need (errors.BadPhrase session at kind) some found exact = record { is = found; only = λ other h. (exact other).1 h }
+solely bytes need (errors.Misplaced session event kind) some found exact = record { is = found; only = λ other h. (exact other).1 h }
+solely bytes need (errors.Oversize session event) some found exact = record { is = found; only = λ other h. (exact other).1 h }
 
--- the refusal of a job, where want of memory is no finding
-finds_only : (bytes : List ℕ) (error : JobError) → ¬ (error ≡ errors.NoMemory) → UnlessNoMemory (Err error) (IsFinding bytes (refused error)) → ((finding : Finding) → UnlessNoMemory (Err error) ((refused error ≡ finding) ↔ IsFinding bytes finding)) → IsSolely bytes (refused error)
-finds_only bytes errors.NoMemory some found exact = absurd (some refl)
-finds_only bytes errors.NotJson some found exact = record { is = found; only = λ other h. (exact other).1 h }
-finds_only bytes (errors.BadJob at kind) some found exact = record { is = found; only = λ other h. (exact other).1 h }
-finds_only bytes (errors.RepeatedPlace first second) some found exact = record { is = found; only = λ other h. (exact other).1 h }
-finds_only bytes (errors.RepeatedArtefact first second) some found exact = record { is = found; only = λ other h. (exact other).1 h }
-finds_only bytes (errors.RepeatedReference first second) some found exact = record { is = found; only = λ other h. (exact other).1 h }
-finds_only bytes (errors.BadRoot session) some found exact = record { is = found; only = λ other h. (exact other).1 h }
-finds_only bytes (errors.RepeatedNonce first second) some found exact = record { is = found; only = λ other h. (exact other).1 h }
-finds_only bytes (errors.BadPhrase session at kind) some found exact = record { is = found; only = λ other h. (exact other).1 h }
-finds_only bytes (errors.Misplaced session event kind) some found exact = record { is = found; only = λ other h. (exact other).1 h }
-finds_only bytes (errors.Oversize session event) some found exact = record { is = found; only = λ other h. (exact other).1 h }
+refused_over : (bytes : List ℕ) (need : BundleNeed) (error : JobError) (why : Refusal) → UnlessNoMemory (Err error) (IsFinding bytes (is_required need) (refused error)) → ((finding : Finding) → UnlessNoMemory (Err error) ((refused error ≡ finding) ↔ IsFinding bytes (is_required need) finding)) → IsRefusalFor error why → IsRefusedOver bytes need why
+refused_over bytes need error why found exact (inl memory) = subst (λ (w : Refusal). IsRefusedOver bytes need w) (sym memory.1) tt
+refused_over bytes need error why found exact (inr other) =
+    subst (λ (w : Refusal). IsRefusedOver bytes need w) (sym other.1) (solely bytes need error other.0 found exact)
 
-pub refused_over : (bytes : List ℕ) (error : JobError) (why : Refusal) → UnlessNoMemory (Err error) (IsFinding bytes (refused error)) → ((finding : Finding) → UnlessNoMemory (Err error) ((refused error ≡ finding) ↔ IsFinding bytes finding)) → IsRefusalFor error why → (why ≡ NoMemory) ⊎ ((named : JobError) × IsSolely bytes (refused named) × (why ≡ JobRefused named))
-refused_over bytes error why found exact (inl memory) = inl memory.1
-refused_over bytes error why found exact (inr other) = inr (error, finds_only bytes error other.0 found exact, other.1)
+-- the same where the need was turned into a truth value
+pub refused_at : (bytes : List ℕ) (need : BundleNeed) (appraise : Bool) (error : JobError) (why : Refusal) → appraise ≡ is_required need → UnlessNoMemory (Err error) (IsFinding bytes appraise (refused error)) → ((finding : Finding) → UnlessNoMemory (Err error) ((refused error ≡ finding) ↔ IsFinding bytes appraise finding)) → IsRefusalFor error why → IsRefusedOver bytes need why
+refused_at bytes need appraise error why same found exact h =
+    refused_over bytes need error why
+    (subst (λ (b : Bool). UnlessNoMemory (Err error) (IsFinding bytes b (refused error))) same found)
+    (subst (λ (b : Bool). (finding : Finding) → UnlessNoMemory (Err error) ((refused error ≡ finding) ↔ IsFinding bytes b finding)) same exact)
+    h
+
+-- a command whose report says something of each session
+pub reports : (Gives : Giving) (Fails : Failing) (command : Command) (job : JobView) (text : List ℕ) (ending : Ending) → IsBuilt command → ReportsEach (SaysIn Gives Fails job command) job.sessions text ending → IsReport Gives Fails command job text ending
+reports Gives Fails Check job text ending built h = h
+reports Gives Fails Shape job text ending built h = h
+reports Gives Fails Events job text ending built h = h
+reports Gives Fails Code job text ending built h = h
+reports Gives Fails Eval job text ending built h = h
+reports Gives Fails (Walk schedule) job text ending built h = h
+reports Gives Fails (Attest workers) job text ending built h = absurd built
+reports Gives Fails Appraise job text ending built h = absurd built
+reports Gives Fails (Load number) job text ending built h = absurd built

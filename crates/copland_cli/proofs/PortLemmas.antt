@@ -3,7 +3,7 @@ use Rattle.std.proofs.Common.{◌≡◌, ◌≤◌, ℕ, List, ◌++◌, length,
 use Rattle.std.proofs.lemmas.List.{append-nil}
 use Rattle.std.specs.Prelude.{Option, None, Some}
 use Rattle.byte_ports.specs.Port.{Gave, IsAtEnd}
-use Rattle.copland_cli.specs.Run.{Port, IsTooLong, input_limit}
+use Rattle.copland_cli.specs.Port.{Port, IsTooLong, IsUnread, input_limit}
 
 -- what was given up to the end is what was told
 pub whole : (before after : Option (List ℕ)) (told bytes : List ℕ) → before ≡ Some told → Gave before after bytes → IsAtEnd after → bytes ≡ told
@@ -35,3 +35,18 @@ same_length (Some before) (Some after) told given bytes is gave other =
 pub not_both : (source : Port) (left bytes : List ℕ) → source.bytes_before ≡ Some left → IsTooLong source → Gave source.bytes_before source.bytes_after bytes → length bytes ≤ input_limit → ⊥
 not_both source left bytes told long gave short =
     let same = same_length source.bytes_before source.bytes_after left long.0 bytes told long.1 gave in omega (arith, same, short, long.2)
+
+-- a source that wasn't read gave nothing
+same_left : (told given : List ℕ) → told ≡ given ++ told → length given ≡ 0
+same_left told given is = let grown = ap length is in omega (arith, grown, length-append given told)
+
+none_between : (before after : Option (List ℕ)) (told given : List ℕ) → before ≡ Some told → after ≡ before → Gave before after given → length given ≡ 0
+none_between None None told given is same gave = absurd cc
+none_between None (Some after) told given is same gave = absurd gave
+none_between (Some before) None told given is same gave = absurd gave
+none_between (Some before) (Some after) told given is same gave =
+    let equal : after ≡ before = cc same in same_left before given (gave ∙ ap (λ rest. given ++ rest) equal)
+
+pub none_given : (source : Port) (left : List ℕ) → source.bytes_before ≡ Some left → IsTooLong source → IsUnread source → ⊥
+none_given source left told long unread =
+    let none = none_between source.bytes_before source.bytes_after left long.0 told unread.bytes long.1 in omega (arith, none, long.2)

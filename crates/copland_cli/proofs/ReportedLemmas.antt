@@ -28,10 +28,6 @@ moved : (P : List ℕ → Bool → Type 0) (text text' : List ℕ) (failed faile
 moved P text text' failed failed' same_text same_failed h =
     subst (λ (f : Bool). P text' f) same_failed (subst (λ (t : List ℕ). P t failed) same_text h)
 
-pub starts-whole : (IsSaid : Saying) (all : List Session) (text : List ℕ) → text ≡ [] → BecomesWhole IsSaid all 0 all text false
-starts-whole IsSaid all text empty = λ others others_failed h.
-    subst (λ (t : List ℕ). AreReported IsSaid 0 all (t ++ others) others_failed) (sym empty) h
-
 pub goes-on : (IsSaid : Saying) (all : List Session) (number : ℕ) (session : Session) (left : List Session) (text piece : List ℕ) (some_failed did_fail : Bool) → BecomesWhole IsSaid all number (session ∷ left) text some_failed → IsSaid number session piece did_fail → BecomesWhole IsSaid all (number + 1) left (text ++ piece) (some_failed || did_fail)
 goes-on IsSaid all number session left text piece some_failed did_fail so_far said = λ others others_failed h.
     moved (AreReported IsSaid 0 all) (text ++ (piece ++ others)) ((text ++ piece) ++ others) (some_failed || (did_fail || others_failed)) ((some_failed || did_fail) || others_failed)

@@ -1,100 +1,122 @@
 -- Words spell one command only.
-use Rattle.std.proofs.Common.{◌≡◌, ◌*◌, ◌+◌, ◌<◌, ◌^◌, ℕ, List, [], ◌∷◌, length, refl, sym, ap, ◌∙◌, arith, subst}
-use Rattle.std.specs.Prelude.{decimal, nat_eq, if◌then◌else◌}
+use Rattle.std.proofs.Common.{◌≡◌, ◌<◌, ◌≤◌, ◌^◌, ℕ, List, [], ◌∷◌, refl, sym, ap, ◌∙◌, arith, subst}
+use Rattle.std.specs.Prelude.{codes, decimal, nat_eq, if◌then◌else◌, Option, None, Some}
+use lib.Pointwise.{pointwise}
 use Rattle.std.proofs.lemmas.Fmt.{decimal_injective}
 use Rattle.copland_cli.specs.declared.words.Command.{Command}
 use Rattle.copland_cli.specs.declared.words.Command.TheVariants.{Check, Shape, Events, Code, Eval, Walk, Attest, Appraise, Load}
+use Rattle.copland_cli.specs.Commands.{IsBuilt}
 use Rattle.copland_cli.specs.Words.{Spells}
-use Rattle.copland_cli.specs.Run.{IsBadWords, IsBuilt, IsUnbuilt}
 
--- a number by which the words of different commands differ: the length and the first byte of the first
-abbrev tag_of_word : List ℕ → ℕ
-tag_of_word [] = 0
-tag_of_word (byte ∷ rest) = 256 * length rest + byte
+-- commands without their numbers
+data Kind : Type 0 where
+  check : Kind
+  shape : Kind
+  events : Kind
+  code : Kind
+  eval : Kind
+  walk : Kind
+  attest : Kind
+  appraise : Kind
+  load : Kind
 
-abbrev tag_of_words : List (List ℕ) → ℕ
-tag_of_words [] = 0
-tag_of_words (word ∷ words) = tag_of_word word
+abbrev kind_of : Command → Kind
+kind_of Check = check
+kind_of Shape = shape
+kind_of Events = events
+kind_of Code = code
+kind_of Eval = eval
+kind_of (Walk number) = walk
+kind_of (Attest workers) = attest
+kind_of Appraise = appraise
+kind_of (Load number) = load
 
--- the number among words, as text; a zero where there is none
+-- the number of a command that has one
+abbrev number_of : Command → ℕ
+number_of Check = 0
+number_of Shape = 0
+number_of Events = 0
+number_of Code = 0
+number_of Eval = 0
+number_of (Walk number) = number
+number_of (Attest workers) = workers
+number_of Appraise = 0
+number_of (Load number) = number
+
+abbrev command_of : Kind → ℕ → Command
+command_of check number = Check
+command_of shape number = Shape
+command_of events number = Events
+command_of code number = Code
+command_of eval number = Eval
+command_of walk number = Walk number
+command_of attest number = Attest number
+command_of appraise number = Appraise
+command_of load number = Load number
+
+parts : (command : Command) → command_of (kind_of command) (number_of command) ≡ command
+parts Check = refl
+parts Shape = refl
+parts Events = refl
+parts Code = refl
+parts Eval = refl
+parts (Walk number) = refl
+parts (Attest workers) = refl
+parts Appraise = refl
+parts (Load number) = refl
+
+-- the kind that a first word names
+abbrev kind_named : List ℕ → Option Kind
+kind_named word =
+    if pointwise nat_eq word (codes "check") then Some check
+    else if pointwise nat_eq word (codes "shape") then Some shape
+    else if pointwise nat_eq word (codes "events") then Some events
+    else if pointwise nat_eq word (codes "code") then Some code
+    else if pointwise nat_eq word (codes "eval") then Some eval
+    else if pointwise nat_eq word (codes "walk") then Some walk
+    else if pointwise nat_eq word (codes "attest") then Some attest
+    else if pointwise nat_eq word (codes "appraise") then Some appraise
+    else if pointwise nat_eq word (codes "load") then Some load
+    else None
+
+abbrev kind_among : List (List ℕ) → Option Kind
+kind_among [] = None
+kind_among (word ∷ words) = kind_named word
+
+-- the last of a command's words, where there are more than one; else a zero
 abbrev number_among : List (List ℕ) → List ℕ
 number_among [] = decimal 0
 number_among (word ∷ []) = decimal 0
 number_among (word ∷ number ∷ []) = number
 number_among (word ∷ flag ∷ number ∷ words) = number
 
-abbrev tag_of : Command → ℕ
-tag_of Check = 1123
-tag_of Shape = 1139
-tag_of Events = 1381
-tag_of Code = 867
-tag_of Eval = 869
-tag_of (Walk number) = 887
-tag_of (Attest workers) = 1377
-tag_of Appraise = 1889
-tag_of (Load number) = 876
-
-abbrev number_of : Command → ℕ
-number_of (Walk number) = number
-number_of (Attest workers) = workers
-number_of (Load number) = number
-number_of _ = 0
-
--- the words of a command tell its tag and its number
+-- the words of a command tell its kind and its number
 record Tells (words : List (List ℕ)) (command : Command) : Type 0 where
-  tag : tag_of_words words ≡ tag_of command
+  kind : kind_among words ≡ Some (kind_of command)
   number : number_among words ≡ decimal (number_of command)
   small : number_of command < 2 ^ 32
 
 tells : (words : List (List ℕ)) (command : Command) → Spells words command → Tells words command
-tells words Check h = record { tag = ap (λ w. tag_of_words w) h; number = ap (λ w. number_among w) h; small = omega arith }
-tells words Shape h = record { tag = ap (λ w. tag_of_words w) h; number = ap (λ w. number_among w) h; small = omega arith }
-tells words Events h = record { tag = ap (λ w. tag_of_words w) h; number = ap (λ w. number_among w) h; small = omega arith }
-tells words Code h = record { tag = ap (λ w. tag_of_words w) h; number = ap (λ w. number_among w) h; small = omega arith }
-tells words Eval h = record { tag = ap (λ w. tag_of_words w) h; number = ap (λ w. number_among w) h; small = omega arith }
-tells words (Walk number) h = record { tag = ap (λ w. tag_of_words w) h.0; number = ap (λ w. number_among w) h.0; small = h.1 }
-tells words (Attest workers) h = record { tag = ap (λ w. tag_of_words w) h.0; number = ap (λ w. number_among w) h.0; small = omega (arith, h.2) }
-tells words Appraise h = record { tag = ap (λ w. tag_of_words w) h; number = ap (λ w. number_among w) h; small = omega arith }
-tells words (Load number) h = record { tag = ap (λ w. tag_of_words w) h.0; number = ap (λ w. number_among w) h.0; small = h.1 }
-
--- the command of a tag and a number
-abbrev command_at : ℕ → ℕ → Command
-command_at tag number =
-    if nat_eq tag 1123 then Check
-    else if nat_eq tag 1139 then Shape
-    else if nat_eq tag 1381 then Events
-    else if nat_eq tag 867 then Code
-    else if nat_eq tag 869 then Eval
-    else if nat_eq tag 887 then Walk number
-    else if nat_eq tag 1377 then Attest number
-    else if nat_eq tag 876 then Load number
-    else Appraise
-
-at_tag : (command : Command) → command_at (tag_of command) (number_of command) ≡ command
-at_tag Check = refl
-at_tag Shape = refl
-at_tag Events = refl
-at_tag Code = refl
-at_tag Eval = refl
-at_tag (Walk number) = refl
-at_tag (Attest workers) = refl
-at_tag Appraise = refl
-at_tag (Load number) = refl
+tells words Check h = record { kind = ap (λ w. kind_among w) h; number = ap (λ w. number_among w) h; small = omega arith }
+tells words Shape h = record { kind = ap (λ w. kind_among w) h; number = ap (λ w. number_among w) h; small = omega arith }
+tells words Events h = record { kind = ap (λ w. kind_among w) h; number = ap (λ w. number_among w) h; small = omega arith }
+tells words Code h = record { kind = ap (λ w. kind_among w) h; number = ap (λ w. number_among w) h; small = omega arith }
+tells words Eval h = record { kind = ap (λ w. kind_among w) h; number = ap (λ w. number_among w) h; small = omega arith }
+tells words (Walk number) h = record { kind = ap (λ w. kind_among w) h.0; number = ap (λ w. number_among w) h.0; small = h.1 }
+tells words (Attest workers) h = record { kind = ap (λ w. kind_among w) h.0; number = ap (λ w. number_among w) h.0; small = omega (arith, h.2) }
+tells words Appraise h = record { kind = ap (λ w. kind_among w) h; number = ap (λ w. number_among w) h; small = omega arith }
+tells words (Load number) h = record { kind = ap (λ w. kind_among w) h.0; number = ap (λ w. number_among w) h.0; small = h.1 }
 
 pub one_command : (words : List (List ℕ)) (one other : Command) → Spells words one → Spells words other → one ≡ other
 one_command words one other h k =
     let a = tells words one h in
     let b = tells words other k in
-    let tag = sym a.tag ∙ b.tag in
+    let both : Some (kind_of one) ≡ Some (kind_of other) = sym a.kind ∙ b.kind in
+    let kind : kind_of one ≡ kind_of other = cc both in
     let number = decimal_injective (number_of one) (number_of other) (omega (arith, a.small)) (omega (arith, b.small)) (sym a.number ∙ b.number) in
-    sym (at_tag one) ∙ ap (λ t. command_at t (number_of one)) tag ∙ ap (λ n. command_at (tag_of other) n) number ∙ at_tag other
+    sym (parts one) ∙ ap (λ k. command_of k (number_of one)) kind ∙ ap (λ n. command_of (kind_of other) n) number ∙ parts other
 
-pub built-bad : (words : List (List ℕ)) (command : Command) → Spells words command → IsBuilt command → IsBadWords words → ⊥
-built-bad words command spelled built bad = let attest = bad command spelled in subst IsBuilt attest.1 built
-
-pub built-unbuilt : (words : List (List ℕ)) (command other : Command) → Spells words command → IsBuilt command → Spells words other → IsUnbuilt other → ⊥
+-- the words of a command that is built are those of no command that isn't
+pub built-unbuilt : (words : List (List ℕ)) (command other : Command) → Spells words command → IsBuilt command → Spells words other → ¬ IsBuilt other → ⊥
 built-unbuilt words command other spelled built again unbuilt =
-    unbuilt.unbuilt (subst IsBuilt (one_command words command other spelled again) built)
-
-pub bad-unbuilt : (words : List (List ℕ)) (command : Command) → IsBadWords words → Spells words command → IsUnbuilt command → ⊥
-bad-unbuilt words command bad spelled unbuilt = unbuilt.plain (bad command spelled)
+    unbuilt (subst (λ (c : Command). IsBuilt c) (one_command words command other spelled again) built)

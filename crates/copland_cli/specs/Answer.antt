@@ -1,91 +1,113 @@
--- The answers of the program, each with its cause and with what was written.
-use Rattle.std.specs.Prelude.{◌≡◌, ◌≢◌, ◌≤◌, ◌⊎◌, ℕ, List, ◌++◌, length, Bool, true, false, Some, codes}
-use Rattle.byte_ports.specs.Port.{Took}
-use Rattle.bench_trait.specs.declared.artefacts.Artefact.{Artefact}
-use Rattle.bench_trait.specs.declared.ask.Ask.{Ask}
-use Rattle.bench_trait.specs.declared.bench.BenchFault.{BenchFault}
-use Rattle.job_reader.specs.Finding.{Finding, JobView, accepted, refused}
-use Rattle.job_reader.specs.declared.refusal.JobError.{JobError}
-use Rattle.report_text.specs.Refusal.{job_line, line_of}
-use Rattle.report_text.specs.declared.refusal.Refusal.TheVariants as refusal
-use Rattle.copland_cli.specs.Finding.{IsFinding}
-use Rattle.copland_cli.specs.Reported.{IsReport}
-use Rattle.copland_cli.specs.Run.{Port, Failed, IsBadWords, IsBuilt, IsRead, IsTooLong, IsUnbuilt, IsUnread, input_limit}
-use Rattle.copland_cli.specs.Status.{job_status}
+-- The answers of the program.
+use Rattle.std.specs.Prelude.{◌≡◌, ◌≢◌, ◌≤◌, ◌↔◌, ◌⊎◌, ℕ, List, length, Some}
+use Rattle.phrase_reader.specs.declared.refusal.Kind.{Kind}
+use Rattle.place_check.specs.declared.entry.PlaceKind.{PlaceKind}
+use Rattle.job_values.specs.declared.place.FieldAt.{FieldAt}
+use Rattle.job_values.specs.declared.place.FieldKind.{FieldKind}
+use Rattle.evidence_codec.specs.declared.fault.BadKind.{BadKind}
+use Rattle.job_reader.specs.Finding.{Finding, IsFinding, JobView, accepted, refused}
+use Rattle.job_reader.specs.declared.refusal.JobError.TheVariants as errors
+use Rattle.report_text.specs.Refusal.{line_of}
+use Rattle.report_text.specs.declared.refusal.Refusal.{Refusal}
+use Rattle.report_text.specs.declared.refusal.Refusal.TheVariants as refusals
+use Rattle.copland_cli.specs.Commands.{IsBuilt, input_of}
+use Rattle.copland_cli.specs.Concluded.{IsConcluded}
+use Rattle.copland_cli.specs.Input.{IsMade, is_required}
+use Rattle.copland_cli.specs.Meaning.{RefusesJob}
+use Rattle.copland_cli.specs.Port.{Port, IsTooLong, MetFault, TookAll, TookFront, TookLine, input_limit}
+use Rattle.copland_cli.specs.Reported.{Failing, Giving}
+use Rattle.copland_cli.specs.Status.{ending_status, job_status, status_of}
 use Rattle.copland_cli.specs.Words.{Spells}
+use Rattle.copland_cli.specs.declared.ending.Ending.{Ending}
+use Rattle.copland_cli.specs.declared.ending.Ending.TheVariants as endings
+use Rattle.copland_cli.specs.declared.input.Input.{Input}
+use Rattle.copland_cli.specs.declared.input.Input.TheVariants.{Nothing, Job}
 use Rattle.copland_cli.specs.declared.words.Command.{Command}
+use Rattle.copland_cli.specs.declared.outcome.Outcome.{Outcome}
+use Rattle.copland_cli.specs.declared.outcome.Report.{Report}
+use Rattle.copland_cli.specs.declared.outcome.Outcome.TheVariants.{Refused, Reported}
 use Rattle.copland_cli.specs.declared.status.Status.{Status}
-use Rattle.copland_cli.specs.declared.status.Status.TheVariants.{Good, SomeFailed, Rejected, BadWords, ReadFault, TooLong, NoReference, BadBundle, WriteFault, NoMemory, Unbuilt}
+use Rattle.copland_cli.specs.declared.status.Status.TheVariants.{Good, SomeFailed, Rejected, BadWords, ReadFault, TooLong, NotJson, BadJob, RepeatedPlace, RepeatedArtefact, RepeatedReference, BadRoot, RepeatedNonce, BadPhrase, Misplaced, Oversize, NoReference, BadBundle, WriteFault, NoMemory, Unbuilt}
 
--- the line of a command that isn't built
-abbrev pub unbuilt_line : List ℕ
-unbuilt_line = codes "error: unbuilt\n"
+-- some outcome, decided so and concluded so
+abbrev pub IsAnswer : (Outcome → Type 0) → Port → Status → Type 0
+IsAnswer Decided sink status = (outcome : Outcome) × Decided outcome × IsConcluded sink outcome status
 
--- the first of these bytes were written, and nothing else
-abbrev pub WritesFront : Port → List ℕ → Type 0
-WritesFront sink bytes =
-    (front : List ℕ) × (rest : List ℕ) × (bytes ≡ front ++ rest) × Took sink.bytes_before sink.bytes_after front
+-- ---- the same by statuses
 
--- these bytes were written, and nothing else
-abbrev pub Writes : Port → List ℕ → Type 0
-Writes sink bytes = Took sink.bytes_before sink.bytes_after bytes
+-- a report with this ending was decided and written whole
+abbrev pub ReportsWith : (Outcome → Type 0) → Port → Ending → Type 0
+ReportsWith Decided sink ending =
+    (report : Report) × Decided (Reported report) × (report.ending ≡ ending) × TookAll sink report.text
 
--- the line was written, and nothing else; where the sink met a fault, the front of it
-abbrev pub WritesLine : Port → List ℕ → Type 0
-WritesLine sink line = Writes sink line ⊎ (Failed sink × WritesFront sink line)
+-- this refusal was decided, and its line was written
+abbrev pub RefusesWith : (Outcome → Type 0) → Port → Refusal → Type 0
+RefusesWith Decided sink why = Decided (Refused why) × TookLine sink (line_of why)
 
--- a report on the accepted job that the source gave was written whole
-abbrev pub WritesReport : (JobView → List ℕ → Bool → Type 0) → Port → Port → Bool → Type 0
-WritesReport Reports source sink some_failed =
-    (job : JobView) × (text : List ℕ) × IsRead source (accepted job) × Reports job text some_failed × Writes sink text
+-- what each status says was decided and written
+abbrev pub HasCause : (Outcome → Type 0) → Port → Status → Type 0
+HasCause Decided sink Good = ReportsWith Decided sink endings.Good
+HasCause Decided sink SomeFailed = ReportsWith Decided sink endings.SomeFailed
+HasCause Decided sink Rejected = ReportsWith Decided sink endings.Rejected
+HasCause Decided sink BadWords = RefusesWith Decided sink refusals.Words
+HasCause Decided sink ReadFault = RefusesWith Decided sink refusals.ReadFault
+HasCause Decided sink TooLong = RefusesWith Decided sink refusals.TooLong
+HasCause Decided sink NotJson = RefusesWith Decided sink (refusals.Job errors.NotJson)
+HasCause Decided sink BadJob =
+    (at : FieldAt) × (kind : FieldKind) × RefusesWith Decided sink (refusals.Job (errors.BadJob at kind))
+HasCause Decided sink RepeatedPlace =
+    (first : ℕ) × (second : ℕ) × RefusesWith Decided sink (refusals.Job (errors.RepeatedPlace first second))
+HasCause Decided sink RepeatedArtefact =
+    (first : ℕ) × (second : ℕ) × RefusesWith Decided sink (refusals.Job (errors.RepeatedArtefact first second))
+HasCause Decided sink RepeatedReference =
+    (first : ℕ) × (second : ℕ) × RefusesWith Decided sink (refusals.Job (errors.RepeatedReference first second))
+HasCause Decided sink BadRoot = (session : ℕ) × RefusesWith Decided sink (refusals.Job (errors.BadRoot session))
+HasCause Decided sink RepeatedNonce =
+    (first : ℕ) × (second : ℕ) × RefusesWith Decided sink (refusals.Job (errors.RepeatedNonce first second))
+HasCause Decided sink BadPhrase =
+    (session : ℕ) × (at : ℕ) × (kind : Kind) × RefusesWith Decided sink (refusals.Job (errors.BadPhrase session at kind))
+HasCause Decided sink Misplaced =
+    (session : ℕ) × (event : ℕ) × (kind : PlaceKind) × RefusesWith Decided sink (refusals.Job (errors.Misplaced session event kind))
+HasCause Decided sink Oversize =
+    (session : ℕ) × (event : ℕ) × RefusesWith Decided sink (refusals.Job (errors.Oversize session event))
+HasCause Decided sink NoReference = (event : ℕ) × RefusesWith Decided sink (refusals.NoReference event)
+HasCause Decided sink BadBundle =
+    ((at : ℕ) × (kind : BadKind) × RefusesWith Decided sink (refusals.BadBundle at kind))
+    ⊎ ((node : ℕ) × RefusesWith Decided sink (refusals.BadShape node))
+HasCause Decided sink WriteFault = (report : Report) × Decided (Reported report) × TookFront sink report.text
+HasCause Decided sink NoMemory = RefusesWith Decided sink refusals.NoMemory
+HasCause Decided sink Unbuilt = RefusesWith Decided sink refusals.Unbuilt
 
--- the sink met a fault while such a report was written: the front of it stands
-abbrev pub ReportFails : (JobView → List ℕ → Bool → Type 0) → Port → Port → Type 0
-ReportFails Reports source sink =
-    (job : JobView) × (text : List ℕ) × (some_failed : Bool) × IsRead source (accepted job) × Reports job text some_failed × Failed sink × WritesFront sink text
+-- ---- exactly where
 
--- the job that the source gave is refused with this status, and its line was written
-abbrev pub RefusesJob : Port → Port → Status → Type 0
-RefusesJob source sink status =
-    (error : JobError) × IsRead source (refused error) × (status ≡ job_status error) × WritesLine sink (job_line error)
+-- what a command is given turns out to be this: the bytes that the source told that it had left, no more
+-- than an input may have; or the job that the command makes
+abbrev pub IsGiven : Input → Command → Port → Finding → Type 0
+IsGiven Nothing command source (accepted job) = IsMade command job
+IsGiven Nothing command source (refused error) = ⊥
+IsGiven (Job need) command source finding =
+    (bytes : List ℕ) × (source.bytes_before ≡ Some bytes) × (length bytes ≤ input_limit) × IsFinding bytes (is_required need) finding
 
--- an answer to the words of a command that is built, by what its reports say of a job
-abbrev pub Runs : (JobView → List ℕ → Bool → Type 0) → Port → Port → Status → Type 0
-Runs Reports source sink Good = WritesReport Reports source sink false
-Runs Reports source sink SomeFailed = WritesReport Reports source sink true
-Runs Reports source sink Rejected = ⊥
-Runs Reports source sink BadWords = ⊥
-Runs Reports source sink ReadFault = Failed source × WritesLine sink (line_of refusal.ReadFault)
-Runs Reports source sink TooLong = IsTooLong source × WritesLine sink (line_of refusal.TooLong)
-Runs Reports source sink NoReference = ⊥
-Runs Reports source sink BadBundle = ⊥
-Runs Reports source sink WriteFault = ReportFails Reports source sink
-Runs Reports source sink NoMemory = WritesLine sink (line_of refusal.NoMemory)
-Runs Reports source sink Unbuilt = ⊥
-Runs Reports source sink status = RefusesJob source sink status
+-- a report was written, whole or up to a fault of the sink
+abbrev pub IsReported : Port → Status → Type 0
+IsReported sink status =
+    ((ending : Ending) × (status ≡ ending_status ending)) ⊎ ((status ≡ WriteFault) × MetFault sink)
 
--- an answer by the words: a run where they are those of a command that is built; else the source isn't
--- read
-pub record IsAnswer (Gives : List Artefact → Ask → List ℕ → Type 0) (Fails : List Artefact → Ask → BenchFault → Type 0) (words : List (List ℕ)) (source sink : Port) (status : Status) : Type 0 where
-  pub built : (command : Command) → Spells words command → IsBuilt command → Runs (IsReport Gives Fails command) source sink status
-  pub bad : IsBadWords words → (status ≡ BadWords) × IsUnread source × WritesLine sink (line_of refusal.Words)
-  pub unbuilt : (command : Command) → Spells words command → IsUnbuilt command → (status ≡ Unbuilt) × IsUnread source × WritesLine sink unbuilt_line
+-- a job that is refused has its refusal's status; one that is accepted has that of the command's refusal
+-- where there is one, and else a report
+abbrev pub ComesAt : Giving → Failing → Command → Port → Finding → Status → Type 0
+ComesAt Gives Fails command sink (refused error) status = status ≡ job_status error
+ComesAt Gives Fails command sink (accepted job) status =
+    ((why : Refusal) → RefusesJob Gives Fails command job why → status ≡ status_of why)
+    × (((why : Refusal) → ¬ RefusesJob Gives Fails command job why) → IsReported sink status)
 
--- where no fault was met and memory sufficed, a refusal of a job comes exactly where its bytes call for
--- it, and a report exactly where they are an accepted job
-abbrev pub ComesAt : Finding → Status → Type 0
-ComesAt (refused error) status = status ≡ job_status error
-ComesAt (accepted job) status = (status ≡ Good) ⊎ (status ≡ SomeFailed)
+-- where the source met no fault and memory sufficed, the answer to the words of a command that is built is
+-- the one for which the command's input calls
+abbrev pub IsExact : (Command → Type 0) → Giving → Failing → List (List ℕ) → Port → Port → Status → Type 0
+IsExact Known Gives Fails words source sink status =
+    (command : Command) (finding : Finding) → Spells words command → Known command → IsBuilt command → ¬ MetFault source → status ≢ NoMemory → IsGiven (input_of command) command source finding → ComesAt Gives Fails command sink finding status
 
--- no port met a fault, and memory sufficed
-pub record IsUndisturbed (source sink : Port) (status : Status) : Type 0 where
-  pub source_kept : Failed source → ⊥
-  pub sink_kept : Failed sink → ⊥
-  pub memory : status ≢ NoMemory
-
--- what the source told that it had left is so, and no longer than an input may be
-pub record Told (source : Port) (finding : Finding) : Type 0 where
-  pub bytes : List ℕ
-  pub told : source.bytes_before ≡ Some bytes
-  pub short : length bytes ≤ input_limit
-  pub kind : IsFinding bytes finding
+-- a source that tells its bytes gave too many of them exactly where the answer says so
+abbrev pub IsTooLongExactly : (Command → Type 0) → List (List ℕ) → Port → Status → Type 0
+IsTooLongExactly Known words source status =
+    (command : Command) (left : List ℕ) → Spells words command → Known command → IsBuilt command → source.bytes_before ≡ Some left → (status ≡ TooLong) ↔ IsTooLong source

@@ -1,10 +1,13 @@
-pub mod Status
 pub mod Words
-pub mod Finding
+pub mod Commands
+pub mod Status
+pub mod Port
+pub mod Input
 pub mod Report
 pub mod Recorded
 pub mod Reported
-pub mod Run
+pub mod Meaning
+pub mod Digests
 pub mod Outcome
-pub mod Answer
 pub mod Concluded
+pub mod Answer

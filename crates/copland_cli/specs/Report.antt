@@ -6,7 +6,7 @@ use Rattle.phrase_tree.specs.Numbering.{event_count}
 use Rattle.phrase_reader.specs.Canonical.{canonical}
 use Rattle.evidence_types.specs.Shape.{shape_at}
 use Rattle.evidence_types.specs.ShapeText.{shape_text}
-use Rattle.evidence_types.specs.Weight.{worst_weight}
+use Rattle.evidence_types.specs.Measure.{worst_weight}
 use Rattle.avm_code.specs.Listing.{listing_text}
 use Rattle.avm_compile.specs.Program.{program_of}
 use Rattle.bench_trait.specs.declared.bench.BenchFault.{BenchFault}

@@ -1,9 +1,11 @@
--- The exit statuses.
+-- The exit statuses, and which refusal and which ending has which.
 use Rattle.std.specs.Prelude.{ℕ}
 use Rattle.job_reader.specs.declared.refusal.JobError.{JobError}
 use Rattle.job_reader.specs.declared.refusal.JobError.TheVariants as errors
 use Rattle.report_text.specs.declared.refusal.Refusal.{Refusal}
 use Rattle.report_text.specs.declared.refusal.Refusal.TheVariants as refusals
+use Rattle.copland_cli.specs.declared.ending.Ending.{Ending}
+use Rattle.copland_cli.specs.declared.ending.Ending.TheVariants as endings
 use Rattle.copland_cli.specs.declared.status.Status.{Status}
 use Rattle.copland_cli.specs.declared.status.Status.TheVariants.{Good, SomeFailed, Rejected, BadWords, ReadFault, TooLong, NotJson, BadJob, RepeatedPlace, RepeatedArtefact, RepeatedReference, BadRoot, RepeatedNonce, BadPhrase, Misplaced, Oversize, NoReference, BadBundle, WriteFault, NoMemory, Unbuilt}
 
@@ -31,7 +33,7 @@ code_of WriteFault = 11
 code_of NoMemory = 12
 code_of Unbuilt = 13
 
--- the answer of the program at a refusal of a job
+-- the answer at a refusal of a job
 abbrev pub job_status : JobError → Status
 job_status errors.NotJson = NotJson
 job_status (errors.BadJob at kind) = BadJob
@@ -48,7 +50,17 @@ job_status errors.NoMemory = NoMemory
 -- the answer at a refusal
 abbrev pub status_of : Refusal → Status
 status_of refusals.Words = BadWords
+status_of refusals.Unbuilt = Unbuilt
 status_of refusals.ReadFault = ReadFault
 status_of refusals.TooLong = TooLong
 status_of (refusals.Job error) = job_status error
+status_of (refusals.NoReference event) = NoReference
+status_of (refusals.BadBundle at kind) = BadBundle
+status_of (refusals.BadShape node) = BadBundle
 status_of refusals.NoMemory = NoMemory
+
+-- the answer at a report that was written whole
+abbrev pub ending_status : Ending → Status
+ending_status endings.Good = Good
+ending_status endings.SomeFailed = SomeFailed
+ending_status endings.Rejected = Rejected

@@ -24,6 +24,10 @@ Spells words (Load number) = (words ≡ codes "load" ∷ decimal number ∷ []) 
 abbrev pub IsNoCommand : List (List ℕ) → Type 0
 IsNoCommand words = (command : Command) → Spells words command → ⊥
 
+-- the words are those of no command that is known here
+abbrev pub IsBadWords : (Command → Type 0) → List (List ℕ) → Type 0
+IsBadWords Known words = (command : Command) → Spells words command → ¬ Known command
+
 -- the text is that of no number of 32 bits
 abbrev pub IsNoNumber : List ℕ → Type 0
 IsNoNumber text = (number : ℕ) → number < 2 ^ 32 → text ≡ decimal number → ⊥

@@ -1,35 +1,35 @@
 ghost use Rattle.std.specs.Prelude.{◌≤◌, ◌↔◌, IsTrue, IfOk, length};
 ghost use Rattle.job_reader.specs.Accepted.{HasCheckedSessions, job_view};
-ghost use Rattle.copland_cli.specs.Outcome.{IsDecided, IsRefusalFor, IsRun, IsRunOf};
-ghost use Rattle.copland_cli.specs.Reported.{IsReport};
-ghost use Rattle.copland_cli.specs.Run.{IsBuilt};
+ghost use Rattle.copland_cli.specs.Commands.{IsBuilt, IsPlain};
+ghost use Rattle.copland_cli.specs.Meaning.{IsReport, SaysIn};
+ghost use Rattle.copland_cli.specs.Outcome.{IsDecided, IsMeant, IsRun};
+ghost use Rattle.copland_cli.specs.Port.{port};
+ghost use Rattle.copland_cli.specs.Reported.{ReportsEach};
 ghost use Rattle.copland_cli.specs.Words.{texts};
 
+use crate::ending::Ending;
+use crate::input::{Input, read_job};
 use crate::session::push_session;
 use crate::words::{Command, command_of};
 use bench_trait::Bench;
-use byte_ports::{Bytes, ReadAllError, Source, read_all};
-use job_reader::{Job, JobError, accepted_job_has_few_sessions, job_of};
+use byte_ports::{Bytes, Source};
+use job_reader::Job;
 use phrase_tree::NoMemory;
 use report_text::Refusal;
 use std::alloc::Global;
 
-/// The greatest length of an input, in bytes.
-const INPUT_LIMIT: u32 = 4194304;
-
-/// What is decided before anything is written: a refusal, that the command isn't built, or a report.
+/// What is decided before anything is written.
 #[derive(Debug, Drop)]
 pub enum Outcome {
     Refused(Refusal),
-    Unbuilt,
     Reported(Report),
 }
 
-/// The whole text of a report, and whether a session in it failed.
+/// The whole text of a report, and how it ends.
 #[derive(Debug, Drop)]
 pub struct Report {
     pub text: Bytes,
-    pub some_failed: bool,
+    pub ending: Ending,
 }
 
 /// Carries out the command that the words spell, on one thread.
@@ -39,16 +39,8 @@ pub fn decide<S: Source, B: Bench>(
     source: &mut S,
     bench: &B,
 ) -> Outcome
-    ensures { IsDecided
-        (λ artefacts ask answer. B.gives bench.now artefacts ask answer)
-        (λ artefacts ask fault. B.fails bench.now artefacts ask fault)
-        (texts words.now)
-        (record {
-          bytes_before = S.left source.old;
-          bytes_after = S.left source.new;
-          faults_before = S.faults source.old;
-          faults_after = S.faults source.new;
-        })
+    ensures { IsDecided IsPlain (B.gives bench.now) (B.fails bench.now) (texts words.now)
+        (port S.left S.faults source.old source.new)
         result }
 {
     match command_of(words) {
@@ -57,7 +49,7 @@ pub fn decide<S: Source, B: Bench>(
             if is_built(command) {
                 run(alloc, command, source, bench)
             } else {
-                Outcome::Unbuilt
+                Outcome::Refused(Refusal::Unbuilt)
             }
         }
     }
@@ -73,69 +65,37 @@ fn is_built(command: Command) -> bool
     }
 }
 
+/// Carries out a command.
 fn run<S: Source, B: Bench>(alloc: Global, command: Command, source: &mut S, bench: &B) -> Outcome
     requires { IsBuilt command }
-    ensures { IsRun
-        (λ job text some_failed. IsReport
-        (λ artefacts ask answer. B.gives bench.now artefacts ask answer)
-        (λ artefacts ask fault. B.fails bench.now artefacts ask fault)
-        command
-        job
-        text
-        some_failed)
-        (record {
-          bytes_before = S.left source.old;
-          bytes_after = S.left source.new;
-          faults_before = S.faults source.old;
-          faults_after = S.faults source.new;
-        })
+    ensures { IsRun (B.gives bench.now) (B.fails bench.now) command
+        (port S.left S.faults source.old source.new)
         result }
 {
-    match read_all(alloc, source, INPUT_LIMIT) {
-        Ok(bytes) => run_over(alloc, command, bytes.items(), bench),
-        Err(ReadAllError::ReadFault) => Outcome::Refused(Refusal::ReadFault),
-        Err(ReadAllError::TooLong) => Outcome::Refused(Refusal::TooLong),
-        Err(ReadAllError::NoMemory) => Outcome::Refused(Refusal::NoMemory),
+    match command.input() {
+        Input::Nothing => unreachable!(),
+        Input::Job(need) => match read_job(alloc, source, need) {
+            Ok(job) => run_over(alloc, command, &job, bench),
+            Err(refusal) => Outcome::Refused(refusal),
+        },
     }
 }
 
-fn run_over<B: Bench>(alloc: Global, command: Command, bytes: &[u8], bench: &B) -> Outcome
-    requires { IsBuilt command }
-    ensures { IsRunOf
-        (λ job text some_failed. IsReport
-        (λ artefacts ask answer. B.gives bench.now artefacts ask answer)
-        (λ artefacts ask fault. B.fails bench.now artefacts ask fault)
-        command
-        job
-        text
-        some_failed)
-        bytes.now
-        result }
+/// Carries out a command over an accepted job.
+fn run_over<B: Bench>(alloc: Global, command: Command, job: &Job, bench: &B) -> Outcome
+    requires built { IsBuilt command }
+    requires checked { HasCheckedSessions job.now }
+    requires few { length job.now.sessions.items ≤ 256 }
+    ensures { IsMeant (B.gives bench.now) (B.fails bench.now) command (job_view job.now) result }
 {
-    match job_of(alloc, bytes, false) {
-        Ok(job) => {
-            accepted_job_has_few_sessions();
-            match report_job(alloc, command, &job, bench) {
-                Ok(report) => Outcome::Reported(report),
-                Err(_) => Outcome::Refused(Refusal::NoMemory),
-            }
-        }
-        Err(error) => Outcome::Refused(refusal_for(error)),
+    match report_each(alloc, command, job, bench) {
+        Ok(report) => Outcome::Reported(report),
+        Err(_) => Outcome::Refused(Refusal::NoMemory),
     }
 }
 
-/// The refusal for that of a job.
-fn refusal_for(error: JobError) -> Refusal
-    ensures { IsRefusalFor error result }
-{
-    match error {
-        JobError::NoMemory => Refusal::NoMemory,
-        _ => Refusal::Job(error),
-    }
-}
-
-/// Says of each session of a job what the command says of it, in their order.
-fn report_job<B: Bench>(
+/// Says what the command says of each session of a job, in order.
+fn report_each<B: Bench>(
     alloc: Global,
     command: Command,
     job: &Job,
@@ -144,13 +104,11 @@ fn report_job<B: Bench>(
     requires built { IsBuilt command }
     requires checked { HasCheckedSessions job.now }
     requires few { length job.now.sessions.items ≤ 256 }
-    ensures { IfOk result (λ report. IsReport
-        (λ artefacts ask answer. B.gives bench.now artefacts ask answer)
-        (λ artefacts ask fault. B.fails bench.now artefacts ask fault)
-        command
-        (job_view job.now)
+    ensures { IfOk result (λ report. ReportsEach
+        (SaysIn (B.gives bench.now) (B.fails bench.now) (job_view job.now) command)
+        (job_view job.now).sessions
         report.text
-        report.some_failed) }
+        report.ending) }
 {
     let mut text = Vec::new(alloc);
     let mut some_failed = false;
@@ -162,6 +120,6 @@ fn report_job<B: Bench>(
     }
     Ok(Report {
         text: Bytes::of(text),
-        some_failed,
+        ending: Ending::of_sessions(some_failed),
     })
 }

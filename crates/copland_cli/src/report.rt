@@ -1,6 +1,6 @@
 ghost use Rattle.std.specs.Prelude.{◌≡◌, ◌+◌, ◌≤◌, ◌*◌, ◌++◌, ◌∷◌, [], IsTrue, OnOk, codes, decimal, length, take, drop};
 ghost use Rattle.hex.specs.Hex.{encode_lower};
-ghost use Rattle.evidence_types.specs.Weight.{worst_weight};
+ghost use Rattle.evidence_types.specs.Measure.{worst_weight};
 ghost use Rattle.place_check.specs.Session.{IsBounded, session_of};
 ghost use Rattle.report_text.specs.Events.{events_text};
 ghost use Rattle.phrase_tree.specs.Term.{term};
@@ -8,12 +8,12 @@ ghost use Rattle.copland_cli.specs.Report.{answer_lines, answer_text, check_text
 ghost use Rattle.copland_cli.specs.Recorded.{recorded};
 
 use crate::record::{DoneRecord, Record};
-use avm_code::{listing, push_bytes, push_decimal};
+use avm_code::listing;
 use avm_compile::compile;
 use bench_trait::BenchFault;
 use evidence_types::{Answer, shape_of, shape_text, worst};
 use phrase_reader::print;
-use phrase_tree::{NoMemory, Phrase};
+use phrase_tree::{NoMemory, Phrase, push_bytes, push_decimal};
 use place_check::Checked;
 use report_text::events_text;
 
@@ -59,7 +59,6 @@ fn push_sizes(text: &mut Vec<u8>, events: u32, weight: u32) -> Result<(), NoMemo
 }
 
 /// The greatest weight of a phrase's evidence, which is nowhere over the limit.
-#[tactic(auto, using(crate::proofs::WeightLemmas::light_worst))]
 fn heaviest(phrase: &Phrase) -> u32
     requires { IsBounded (term phrase.now) }
     ensures { result ≡ worst_weight (term phrase.now) }
@@ -129,7 +128,7 @@ fn push_done_record(text: &mut Vec<u8>, number: u32, done: &DoneRecord) -> Resul
     push_evidence(text, done.answers.items(), done.bundle.items())
 }
 
-/// Appends the lines of a session's record but for its trace.
+/// Appends the lines of a session's record, without its trace.
 pub fn push_value(text: &mut Vec<u8>, number: u32, found: &Record) -> Result<(), NoMemory>
     ensures { OnOk result (text.new.items ≡ text.old.items ++ value_text number (recorded found.now)) }
 {

@@ -1,20 +1,29 @@
-ghost use Rattle.std.specs.Prelude.{◌≡◌, ◌++◌, List, ℕ, IfOk};
+ghost use Rattle.std.specs.Prelude.{◌≡◌, ◌++◌, List, ℕ, IfOk, IsTrue, is_some};
+ghost use Rattle.std.specs.List.{AllByRecursion};
 ghost use Rattle.phrase_tree.specs.Term.{term};
+ghost use Rattle.seal_hmac.specs.Keys.{key_of};
+ghost use Rattle.avm_compile.specs.Program.{program_of};
 ghost use Rattle.place_check.specs.Places.{keys_of};
 ghost use Rattle.place_check.specs.Session.{IsCheckedAgainst, session_of};
 ghost use Rattle.plain_eval.specs.Keyed.{HasKeys};
+ghost use Rattle.session_model.specs.Record.{IsRisingRecord};
+ghost use Rattle.session_model.specs.RightRecord.{IsRightRecord};
+ghost use Rattle.copland_cli.specs.Recorded.{recorded};
 ghost use Rattle.copland_cli.specs.Report.{record_text, value_text};
 ghost use Rattle.copland_cli.specs.Reported.{IsRecordText, Says};
-ghost use Rattle.copland_cli.specs.Run.{IsBuilt};
+ghost use Rattle.copland_cli.specs.Commands.{IsBuilt};
 
+use crate::record::Record;
 use crate::report::{push_check, push_code, push_events, push_record, push_shape, push_value};
 use crate::walk::walk_rising;
 use crate::words::Command;
+use avm_compile::blocks_are_where_events_are;
 use bench_trait::Bench;
 use job_reader::Job;
 use phrase_tree::NoMemory;
-use place_check::{Checked, checked_session_has_keys};
+use place_check::{Checked, Places, checked_session_has_keys};
 use plain_eval::events_have_the_keys_of_seals;
+use std::alloc::Global;
 
 /// Appends what a command says of a session of a job, and tells whether the session failed.
 pub fn push_session<B: Bench>(
@@ -28,8 +37,8 @@ pub fn push_session<B: Bench>(
     requires built { IsBuilt command }
     requires checked { IsCheckedAgainst (session_of checked.now) job.now.places }
     ensures { IfOk result (λ did_fail. (piece : List ℕ) × (text.new.items ≡ text.old.items ++ piece) × Says
-        (λ ask answer. B.gives bench.now job.now.artefacts ask answer)
-        (λ ask fault. B.fails bench.now job.now.artefacts ask fault)
+        (B.gives bench.now job.now.artefacts)
+        (B.fails bench.now job.now.artefacts)
         (keys_of job.now.places)
         command
         number
@@ -69,17 +78,15 @@ fn push_evaluated<B: Bench>(
 ) -> Result<bool, NoMemory>
     requires { IsCheckedAgainst (session_of checked.now) job.now.places }
     ensures { IfOk result (λ did_fail. (piece : List ℕ) × (text.new.items ≡ text.old.items ++ piece) × IsRecordText
-        (λ ask answer. B.gives bench.now job.now.artefacts ask answer)
-        (λ ask fault. B.fails bench.now job.now.artefacts ask fault)
+        (B.gives bench.now job.now.artefacts)
+        (B.fails bench.now job.now.artefacts)
         (keys_of job.now.places)
         (session_of checked.now)
         (value_text number)
         piece
         did_fail) }
 {
-    let keys = job.places.keys();
-    have_keys(job, checked);
-    let record = walk_rising(*text.allocator(), checked, keys, &job.artefacts, bench)?;
+    let record = record_of(*text.allocator(), job, checked, bench)?;
     push_value(text, number, &record)?;
     Ok(record.is_failed())
 }
@@ -93,19 +100,42 @@ fn push_walked<B: Bench>(
 ) -> Result<bool, NoMemory>
     requires { IsCheckedAgainst (session_of checked.now) job.now.places }
     ensures { IfOk result (λ did_fail. (piece : List ℕ) × (text.new.items ≡ text.old.items ++ piece) × IsRecordText
-        (λ ask answer. B.gives bench.now job.now.artefacts ask answer)
-        (λ ask fault. B.fails bench.now job.now.artefacts ask fault)
+        (B.gives bench.now job.now.artefacts)
+        (B.fails bench.now job.now.artefacts)
         (keys_of job.now.places)
         (session_of checked.now)
         (record_text number)
         piece
         did_fail) }
 {
-    let keys = job.places.keys();
-    have_keys(job, checked);
-    let record = walk_rising(*text.allocator(), checked, keys, &job.artefacts, bench)?;
+    let record = record_of(*text.allocator(), job, checked, bench)?;
     push_record(text, number, &record)?;
     Ok(record.is_failed())
+}
+
+/// The record of a session of a job.
+fn record_of<B: Bench>(
+    alloc: Global,
+    job: &Job,
+    checked: &Checked,
+    bench: &B,
+) -> Result<Record, NoMemory>
+    requires { IsCheckedAgainst (session_of checked.now) job.now.places }
+    ensures right { IfOk result (λ record'. IsRightRecord
+        (B.gives bench.now job.now.artefacts)
+        (B.fails bench.now job.now.artefacts)
+        (session_of checked.now)
+        (keys_of job.now.places)
+        (recorded record')) }
+    ensures rising { IfOk result (λ record'. IsRisingRecord
+        (B.gives bench.now job.now.artefacts)
+        (B.fails bench.now job.now.artefacts)
+        (session_of checked.now)
+        (keys_of job.now.places)
+        (recorded record')) }
+{
+    have_keys(job, checked);
+    walk_rising(alloc, checked, job.places.keys(), &job.artefacts, bench)
 }
 
 /// The places of a job have the keys for each seal of a session that was checked against them.
@@ -115,4 +145,16 @@ fn have_keys(job: &Job, checked: &Checked)
 {
     checked_session_has_keys(&job.places, checked);
     events_have_the_keys_of_seals();
+}
+
+/// A law: each block of the program of a session that was checked against places is at a place whose
+/// key is among theirs, so each `Sign` of it has its key. It does nothing.
+pub fn blocks_have_keys(places: &Places, checked: &Checked)
+    requires { IsCheckedAgainst (session_of checked.now) places.now }
+    ensures { AllByRecursion
+        (λ one. IsTrue (is_some (key_of (keys_of places.now) one.place)))
+        (program_of (term checked.now.phrase) checked.now.root) }
+{
+    checked_session_has_keys(places, checked);
+    blocks_are_where_events_are();
 }

@@ -4,7 +4,7 @@ ghost use Rattle.copland_cli.specs.Status.{code_of, job_status, status_of};
 use job_reader::JobError;
 use report_text::Refusal;
 
-/// How a run ended. Each has an exit status of its own number; several refusals share one.
+/// How a run ended. Each has its own exit status; several refusals share one.
 #[derive(Clone, Copy, Debug, PartialEq, Eq)]
 pub enum Status {
     /// The report was written whole.
@@ -13,36 +13,36 @@ pub enum Status {
     SomeFailed,
     /// The report was written whole, and its verdicts aren't all good.
     Rejected,
-    /// The words are no command.
+    /// The words are not a command.
     BadWords,
     /// The source met a fault.
     ReadFault,
     /// The input is longer than 4,194,304 bytes.
     TooLong,
-    /// The input is no JSON text.
+    /// The input is not a JSON text.
     NotJson,
-    /// The job is not of its form.
+    /// The job does not have its form.
     BadJob,
     RepeatedPlace,
     RepeatedArtefact,
     RepeatedReference,
-    /// A session's root is no place of the job.
+    /// A session's root is not a place of the job.
     BadRoot,
     RepeatedNonce,
     /// A phrase is refused.
     BadPhrase,
     /// An event breaks a rule of its place.
     Misplaced,
-    /// The evidence at an event weighs too much.
+    /// The evidence at an event weighs too much or nests too deep.
     Oversize,
     /// A measurement has no reference.
     NoReference,
-    /// The bundle is none, or not of the phrase's shape.
+    /// The bytes are not a bundle, or its value does not have the phrase's shape.
     BadBundle,
     /// The sink met a fault while the report was written.
     WriteFault,
     NoMemory,
-    /// The command, or the job, is not built yet.
+    /// The command is not built yet.
     Unbuilt,
 }
 
@@ -81,9 +81,12 @@ pub fn status_of(refusal: &Refusal) -> Status
 {
     match refusal {
         Refusal::Words => Status::BadWords,
+        Refusal::Unbuilt => Status::Unbuilt,
         Refusal::ReadFault => Status::ReadFault,
         Refusal::TooLong => Status::TooLong,
         Refusal::Job(error) => job_status(error),
+        Refusal::NoReference { .. } => Status::NoReference,
+        Refusal::BadBundle { .. } | Refusal::BadShape { .. } => Status::BadBundle,
         Refusal::NoMemory => Status::NoMemory,
     }
 }

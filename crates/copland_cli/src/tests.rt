@@ -1,3 +1,4 @@
+use crate::laws::{commands_are_decisive, reports_follow_from_bytes};
 use crate::status::Status;
 use crate::top::plain_top;
 use bench_trait::{Bench, BenchFault, DigestBench, TableBench, TableResult, TableRow};
@@ -9,14 +10,14 @@ use std::test::Fail;
 const NO_CALLS: [u64; 0] = [];
 
 /// A job of one session with this phrase.
-fn job_of(alloc: Global, phrase: &str) -> Result<String, Fail> {
+pub fn job_of(alloc: Global, phrase: &str) -> Result<String, Fail> {
     let mut job = String::from_str(alloc, JOB_HEAD)?;
     job.push_str(phrase)?;
     job.push_str("\"}]}")?;
     Ok(job)
 }
 
-const JOB_HEAD: &str =
+pub const JOB_HEAD: &str =
     "{\"places\":[{\"name\":\"bank\",\"key\":\"000102030405060708090a0b0c0d0e0f\",\"asks\":[\"q\"],\"sees\":[\"q\"],\"offers\":[\"scan\",\"a\",\"b\"]},{\"name\":\"q\",\"key\":\"101112131415161718191a1b1c1d1e1f\",\"offers\":[\"scan\"]}],\"sessions\":[{\"root\":\"bank\",\"nonce\":\"000102030405060708090a0b0c0d0e0f\",\"phrase\":\"";
 
 const COPIED: &str =
@@ -211,6 +212,46 @@ fn sessions_are_reported(rt: HostRuntime) -> Result<(), Fail> {
             ("shape", Status::Good, "session 0 shape H(bank,4,S(N,N))\n"),
             ("eval", Status::Good, HASHED),
         ],
+    )?;
+    expect_all(
+        &rt,
+        alloc,
+        "USM scan->NUL",
+        &[
+            (
+                "check",
+                Status::Good,
+                "session 0 ok events 2 weight 1048\nphrase USM scan -> NUL\n",
+            ),
+            ("shape", Status::Good, "session 0 shape E\n"),
+            (
+                "events",
+                Status::Good,
+                "session 0 events 2\nevent 0 usm scan at bank\nevent 1 nul at bank after 0\n",
+            ),
+            (
+                "code",
+                Status::Good,
+                "session 0 code\nblock root at bank\nusm 0 scan\nnull 1\nend\n",
+            ),
+        ],
+    )?;
+    expect_all(
+        &rt,
+        alloc,
+        "SIG -> NUL",
+        &[
+            (
+                "eval",
+                Status::Good,
+                "session 0 done\nbundle 43504c42010000000100\n",
+            ),
+            (
+                "walk 0",
+                Status::Good,
+                "session 0 done\ntrace 0 1\nbundle 43504c42010000000100\n",
+            ),
+        ],
     )
 }
 
@@ -223,123 +264,61 @@ const ASKED_CODE: &str =
 const HASHED: &str =
     "session 0 done\nbundle 43504c4201000000250500000004eeb3e2ab6a60f3b47e374422806ba61f40312d27ba55f9b494ccdd9838f26a69\n";
 
+/// A chain of the same leaf, this many times.
+fn chain_of(alloc: Global, leaf: &str, count: u32) -> Result<String, Fail> {
+    let mut phrase = String::from_str(alloc, leaf)?;
+    for _ in 1..count {
+        phrase.push_str(" -> ")?;
+        phrase.push_str(leaf)?;
+    }
+    Ok(phrase)
+}
+
+// The deepest evidence, and the chain of the most events.
 #[test]
-fn refusals_of_jobs_have_their_lines(rt: HostRuntime) -> Result<(), Fail> {
+fn the_longest_chains_are_reported(rt: HostRuntime) -> Result<(), Fail> {
     let alloc = rt.alloc();
-    for (phrase, want) in [
-        ("", (Status::BadPhrase, "error: phrase 0 0 expected\n")),
+    for (leaf, count, head) in [
         (
-            "CPY CPY",
-            (Status::BadPhrase, "error: phrase 0 4 trailing\n"),
+            "SIG",
+            1024,
+            "session 0 ok events 1024 weight 37905\nphrase ",
         ),
+        ("CPY", 2048, "session 0 ok events 2048 weight 17\nphrase "),
+    ] {
+        let phrase = chain_of(alloc, leaf, count)?;
+        let job = job_of(alloc, phrase.as_str())?;
+        let mut want = String::from_str(alloc, head)?;
+        want.push_str(phrase.as_str())?;
+        want.push_str("\n")?;
+        let good = (Status::Good, want.as_str());
+        expect_run(&rt, alloc, "check", job.as_bytes(), &WHOLE, good)?;
+        for words in ["shape", "events", "code", "eval", "walk 0"] {
+            expect_front(&rt, alloc, words, job.as_bytes(), "session 0 ")?;
+        }
+    }
+    for (leaf, count, want) in [
+        ("SIG", 1025, (Status::Oversize, "error: oversize 0 1024\n")),
         (
-            "CPY +<* CPY",
-            (Status::BadPhrase, "error: phrase 0 6 char\n"),
-        ),
-        ("USM Scan", (Status::BadPhrase, "error: phrase 0 4 word\n")),
-        (
-            "@q [USM a]",
-            (Status::Misplaced, "error: misplaced 0 1 not-offered\n"),
-        ),
-        (
-            "@q [@bank [CPY]]",
-            (Status::Misplaced, "error: misplaced 0 1 may-not-ask\n"),
-        ),
-        (
-            "@zz [CPY] -> USM x",
-            (Status::Misplaced, "error: misplaced 0 0 unknown-place\n"),
-        ),
-        (
-            "KIM bank scan",
-            (Status::Misplaced, "error: misplaced 0 0 may-not-see\n"),
+            "CPY",
+            2049,
+            (Status::BadPhrase, "error: phrase 0 14336 too-many-events\n"),
         ),
     ] {
-        let job = job_of(alloc, phrase)?;
+        let phrase = chain_of(alloc, leaf, count)?;
+        let job = job_of(alloc, phrase.as_str())?;
         expect_run(&rt, alloc, "check", job.as_bytes(), &WHOLE, want)?;
-        expect_run(&rt, alloc, "walk 0", job.as_bytes(), &WHOLE, want)?;
-    }
-    for (input, want) in [
-        ("", (Status::NotJson, "error: not json\n")),
-        ("{", (Status::NotJson, "error: not json\n")),
-        ("[]", (Status::BadJob, "error: job $ wrong-kind\n")),
-        ("{}", (Status::BadJob, "error: job $.places missing\n")),
-        (
-            BAD_KEY,
-            (Status::BadJob, "error: job $.places[0].key bad-hex\n"),
-        ),
-        (
-            SHORT_KEY,
-            (Status::BadJob, "error: job $.places[0].key out-of-range\n"),
-        ),
-        (
-            BAD_ASK,
-            (Status::BadJob, "error: job $.places[0].asks[1] bad-name\n"),
-        ),
-        (BAD_ROOT, (Status::BadRoot, "error: bad root 0\n")),
-        (
-            STRAY,
-            (Status::BadJob, "error: job $.sessions[0] unknown\n"),
-        ),
-        (
-            SAME_NONCES,
-            (Status::RepeatedNonce, "error: repeated nonce 0 1\n"),
-        ),
-        (
-            SAME_PLACES,
-            (Status::RepeatedPlace, "error: repeated place 0 1\n"),
-        ),
-    ] {
-        expect_run(&rt, alloc, "check", input.as_bytes(), &WHOLE, want)?;
-        expect_run(&rt, alloc, "eval", input.as_bytes(), &WHOLE, want)?;
     }
     Ok(())
 }
 
-const BAD_KEY: &str = "{\"places\":[{\"name\":\"bank\",\"key\":\"0g\"}]}";
-
-const SHORT_KEY: &str = "{\"places\":[{\"name\":\"bank\",\"key\":\"00\"}]}";
-
-const BAD_ASK: &str =
-    "{\"places\":[{\"name\":\"bank\",\"key\":\"000102030405060708090a0b0c0d0e0f\",\"asks\":[\"q\",\"Q\"]}]}";
-
-const BAD_ROOT: &str =
-    "{\"places\":[{\"name\":\"bank\",\"key\":\"000102030405060708090a0b0c0d0e0f\"}],\"sessions\":[{\"root\":\"zz\",\"nonce\":\"000102030405060708090a0b0c0d0e0f\",\"phrase\":\"CPY\"}]}";
-
-const STRAY: &str =
-    "{\"places\":[{\"name\":\"bank\",\"key\":\"000102030405060708090a0b0c0d0e0f\"}],\"sessions\":[{\"root\":\"bank\",\"nonce\":\"000102030405060708090a0b0c0d0e0f\",\"phrase\":\"CPY\",\"x\":1}]}";
-
-const SAME_NONCES: &str =
-    "{\"places\":[{\"name\":\"bank\",\"key\":\"000102030405060708090a0b0c0d0e0f\"}],\"sessions\":[{\"root\":\"bank\",\"nonce\":\"000102030405060708090a0b0c0d0e0f\",\"phrase\":\"CPY\"},{\"root\":\"bank\",\"nonce\":\"000102030405060708090A0B0C0D0E0F\",\"phrase\":\"CPY\"}]}";
-
-const SAME_PLACES: &str =
-    "{\"places\":[{\"name\":\"q\",\"key\":\"000102030405060708090a0b0c0d0e0f\"},{\"name\":\"q\",\"key\":\"000102030405060708090a0b0c0d0e0f\"}],\"sessions\":[{\"root\":\"bank\",\"nonce\":\"000102030405060708090a0b0c0d0e0f\",\"phrase\":\"CPY\"}]}";
-
-// A chain of the most events, whose evidence nests deepest.
-#[test]
-fn the_longest_chain_is_reported(rt: HostRuntime) -> Result<(), Fail> {
-    let alloc = rt.alloc();
-    let mut phrase = String::from_str(alloc, "SIG")?;
-    for _ in 1u32..1024 {
-        phrase.push_str(" -> SIG")?;
-    }
-    let job = job_of(alloc, phrase.as_str())?;
-    let mut want = String::from_str(alloc, "session 0 ok events 1024 weight 37905\nphrase ")?;
-    want.push_str(phrase.as_str())?;
-    want.push_str("\n")?;
-    let good = (Status::Good, want.as_str());
-    expect_run(&rt, alloc, "check", job.as_bytes(), &WHOLE, good)?;
-    for words in ["shape", "events", "code", "eval", "walk 0"] {
-        expect_good(&rt, alloc, words, job.as_bytes())?;
-    }
-    Ok(())
-}
-
-/// Runs the program on the input, and checks its status alone.
-fn expect_good(
+/// Runs the program on the input, and checks that it is good and what it wrote first.
+pub fn expect_front(
     rt: &impl std::process::Abort,
     alloc: Global,
     words: &str,
     input: &[u8],
+    front: &str,
 ) -> Result<(), Fail> {
     let mut list = Vec::new(alloc);
     for word in words.split(' ') {
@@ -350,6 +329,10 @@ fn expect_good(
     let mut sink = MemSink::of(alloc, Behaviour::of(65536, Vec::new(alloc)));
     let status = plain_top(alloc, list.as_slice(), &mut source, &mut sink, &DigestBench);
     assert_eq!(rt; status, Status::Good, "at the words {words}");
+    assert!(rt;
+        sink.taken().starts_with(front.as_bytes()),
+        "at the words {words}"
+    );
     Ok(())
 }
 
@@ -388,6 +371,11 @@ fn answers_faults_and_want_of_memory_come_from_the_bench(rt: HostRuntime) -> Res
             "session 0 done\ntrace 0 1 2 3\nanswer 1 11\nanswer 2 22\nbundle 43504c42010000002306020000000100011100020000000200012201000102030405060708090a0b0c0d0e0f\n",
         ),
         (
+            "@q [USM scan -> SIG]",
+            "walk 0",
+            "session 0 done\ntrace 0 1 2 3\nanswer 1 11\nbundle 43504c42010000003e04000000025f392531f1398617f975a0d0df3de9b76edd1eb0fca777a0def32b462d76fc44020000000100011101000102030405060708090a0b0c0d0e0f\n",
+        ),
+        (
             "((USM scan))->SIG",
             "eval",
             "session 0 done\nanswer 0 aabb\nbundle 43504c42010000003f0400000001bf3d4bf059e139949ebbf67a3cddf4cb9491800b555a0367c1f2ffe4ba66293102000000000002aabb01000102030405060708090a0b0c0d0e0f\n",
@@ -422,6 +410,23 @@ fn answers_faults_and_want_of_memory_come_from_the_bench(rt: HostRuntime) -> Res
         parallel.as_bytes(),
         &WHOLE,
         &failing,
+        want,
+    )?;
+    // The right arm fails, after the left one has answered.
+    let mut rows = Vec::new(alloc);
+    rows.push(row(1, answer(&rt, &[0x11])))?;
+    let lacking = TableBench::of(rows);
+    let want = (
+        Status::SomeFailed,
+        "session 0 failed 2 no-artefact\ntrace 0 1\n",
+    );
+    expect_with(
+        &rt,
+        alloc,
+        "walk 0",
+        parallel.as_bytes(),
+        &WHOLE,
+        &lacking,
         want,
     )?;
     let mut rows = Vec::new(alloc);
@@ -521,4 +526,10 @@ fn each_status_has_its_code(rt: HostRuntime) {
     ] {
         assert_eq!(rt; status.code(), code, "at {status:?}");
     }
+}
+
+#[test]
+fn laws_are_called(_rt: HostRuntime) {
+    commands_are_decisive::<DigestBench>();
+    reports_follow_from_bytes(b"{}");
 }

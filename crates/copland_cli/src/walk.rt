@@ -3,6 +3,7 @@ ghost use Rattle.phrase_tree.specs.Term.{term};
 ghost use Rattle.place_check.specs.Session.{session_of};
 ghost use Rattle.plain_eval.specs.Keyed.{HasKeys};
 ghost use Rattle.session_model.specs.Record.{IsRisingRecord, numbers_below};
+ghost use Rattle.session_model.specs.RightRecord.{IsRightRecord};
 ghost use Rattle.copland_cli.specs.Recorded.{done_with, failed_at, recorded};
 
 use crate::record::{DoneRecord, FailRecord, Record};
@@ -11,13 +12,13 @@ use evidence_codec::encode;
 use evidence_types::Answers;
 use phrase_tree::{NoMemory, Trace};
 use place_check::Checked;
-use plain_eval::{Gathered, eval, gather};
+use plain_eval::{Gathered, eval, gather, rising_records_are_right};
 use seal_hmac::KeyRing;
 use std::alloc::Global;
 
 /// Walks one session to its end on one thread: asks its questions in the order of their events, and
-/// evaluates its phrase. It takes one walk over the phrase for each, and time in the bytes of the value
-/// and of what is sealed and hashed.
+/// evaluates its phrase. It goes over the phrase once for each of these, and takes time in the bytes of
+/// the value and of what is sealed and hashed.
 pub fn walk_rising<B: Bench>(
     alloc: Global,
     checked: &Checked,
@@ -26,9 +27,34 @@ pub fn walk_rising<B: Bench>(
     bench: &B,
 ) -> Result<Record, NoMemory>
     requires { HasKeys (term checked.now.phrase) checked.now.root keys.now }
+    ensures right { IfOk result (λ record'. IsRightRecord
+        (B.gives bench.now artefacts.now)
+        (B.fails bench.now artefacts.now)
+        (session_of checked.now)
+        keys.now
+        (recorded record')) }
+    ensures rising { IfOk result (λ record'. IsRisingRecord
+        (B.gives bench.now artefacts.now)
+        (B.fails bench.now artefacts.now)
+        (session_of checked.now)
+        keys.now
+        (recorded record')) }
+{
+    rising_records_are_right::<B>();
+    in_rising_order(alloc, checked, keys, artefacts, bench)
+}
+
+fn in_rising_order<B: Bench>(
+    alloc: Global,
+    checked: &Checked,
+    keys: &KeyRing,
+    artefacts: &ArtefactBook,
+    bench: &B,
+) -> Result<Record, NoMemory>
+    requires { HasKeys (term checked.now.phrase) checked.now.root keys.now }
     ensures { IfOk result (λ record'. IsRisingRecord
-        (λ ask answer. B.gives bench.now artefacts.now ask answer)
-        (λ ask fault. B.fails bench.now artefacts.now ask fault)
+        (B.gives bench.now artefacts.now)
+        (B.fails bench.now artefacts.now)
         (session_of checked.now)
         keys.now
         (recorded record')) }

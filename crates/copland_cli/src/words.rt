@@ -1,6 +1,7 @@
 ghost use Rattle.std.specs.Prelude.{◌≡◌, ◌^◌, ◌<◌, ◌≤◌, ℕ, MatchOption, codes, decimal, [], ◌∷◌};
 ghost use Rattle.copland_cli.specs.Words.{IsNoNumber, IsNoCommand, Spells, texts};
 
+use crate::input::{BundleNeed, Input};
 use itoa::Buffer;
 
 /// A command of the program.
@@ -18,6 +19,24 @@ pub enum Command {
     Appraise,
     /// The made job of this number.
     Load(u32),
+}
+
+impl Command {
+    ghost use Rattle.copland_cli.specs.Commands.{input_of};
+
+    /// What the command reads.
+    pub fn input(self) -> Input
+        ensures { result ≡ input_of self }
+    {
+        match self {
+            Command::Check | Command::Shape | Command::Events | Command::Code | Command::Eval => {
+                Input::Job(BundleNeed::Optional)
+            }
+            Command::Walk(_) | Command::Attest(_) => Input::Job(BundleNeed::Optional),
+            Command::Appraise => Input::Job(BundleNeed::Required),
+            Command::Load(_) => Input::Nothing,
+        }
+    }
 }
 
 /// The greatest number of workers.

@@ -7,6 +7,7 @@ use Rattle.event_system.specs.declared.fault.TraceFault.{TraceFault}
 use Rattle.event_system.specs.declared.fault.TraceFault.TheVariants.{Strange, Repeated, Early, Missing}
 use Rattle.event_system.specs.Order.{IsEvent, IsBefore}
 use Rattle.event_system.specs.Trace.{MayFollow, IsTraceSoFar, IsTrace}
+use Rattle.phrase_tree.specs.declared.phrase.TheConstants.{EVENTS}
 use Rattle.phrase_tree.specs.Numbering.{event_count, IsSized}
 use Rattle.event_system.specs.declared.direct.Needs.{Needs}
 use Rattle.event_system.specs.Needs.{Names, AreNeeds}
@@ -118,7 +119,7 @@ exact_none phrase i trace None h = (λ e. h, λ k. refl)
 exact_none phrase i trace (Some g) h = (λ e. absurd (cc), λ k. absurd (trace_sound phrase i trace g k h))
 
 -- the position of a fault is below the bound on the events
-pub position_fits : (phrase : Term) (trace : List ℕ) (position : ℕ) → IsSized phrase → StandsBehind phrase 0 trace position → position ≤ 1024
+pub position_fits : (phrase : Term) (trace : List ℕ) (position : ℕ) → IsSized phrase → StandsBehind phrase 0 trace position → position ≤ EVENTS
 position_fits phrase trace position sized behind =
     omega (arith, so_far_short phrase (take position trace) behind.so_far, length-take-le position trace (omega (arith, behind.within)), sized.events)
 

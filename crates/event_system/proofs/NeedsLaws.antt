@@ -2,7 +2,7 @@
 use Rattle.std.proofs.Common.{◌≡◌, ℕ, ◌+◌, ◌-◌, ◌≤◌, ◌<◌, ◌⊎◌, inl, inr, refl, sym, ap, ◌∙◌, subst, cond, eqb, ltb, List, [], Option, Some, None, arith}
 use Rattle.std.proofs.lemmas.Bool.{cases_lt, cond_both, cond-true, eqb-true, eqb-false, ltb-true, ltb-false, eq-eqb, lt-ltb}
 use Rattle.phrase_tree.specs.declared.phrase.Split.{Split}
-use Rattle.phrase_tree.specs.Term.{Term, cpy, sig, hsh, usm, kim, at, chain, seq, par}
+use Rattle.phrase_tree.specs.Term.{Term, leaf, at, chain, seq, par}
 use Rattle.phrase_tree.specs.Numbering.{event_count}
 use Rattle.event_system.specs.declared.direct.Needs.{Needs}
 use Rattle.event_system.specs.Order.{IsEvent, Crosses, IsBefore, IsDirectlyBefore}
@@ -19,11 +19,7 @@ by_place y i m a b c P first inside last =
 
 -- the first event of a phrase has what the phrase is entered from
 pub needs_at_start : (entry : Option ℕ) (phrase : Term) (i : ℕ) → needs_behind entry phrase i i ≡ only entry
-needs_at_start entry cpy i = refl
-needs_at_start entry sig i = refl
-needs_at_start entry hsh i = refl
-needs_at_start entry (usm asp) i = refl
-needs_at_start entry (kim target asp) i = refl
+needs_at_start entry (leaf form) i = refl
 needs_at_start entry (at asked body) i = cond-true (eqb i i) _ _ (eq-eqb i i refl)
 needs_at_start entry (chain left right) i =
     cond-true (ltb i (i + event_count left)) _ _ (lt-ltb i (i + event_count left) (omega (arith, some_event left))) ∙ needs_at_start entry left i
@@ -212,11 +208,7 @@ par_found entry split left right i x y l r event =
 
 -- what is named is a direct predecessor, or what the phrase is entered from
 pub names_found : (entry : Option ℕ) (phrase : Term) (i x y : ℕ) → IsEvent phrase i y → Names (needs_behind entry phrase i y) x → Found entry phrase i x y
-names_found entry cpy i x y event h = inr (omega arith, only_names entry x h)
-names_found entry sig i x y event h = inr (omega arith, only_names entry x h)
-names_found entry hsh i x y event h = inr (omega arith, only_names entry x h)
-names_found entry (usm asp) i x y event h = inr (omega arith, only_names entry x h)
-names_found entry (kim target asp) i x y event h = inr (omega arith, only_names entry x h)
+names_found entry (leaf form) i x y event h = inr (omega arith, only_names entry x h)
 names_found entry (at asked body) i x y event h = request_found entry asked body i x y (names_found (Some i) body (i + 1) x y) event h
 names_found entry (chain left right) i x y event h =
     chain_found entry left right i x y (names_found entry left i x y) (names_found (Some (i + event_count left - 1)) right (i + event_count left) x y) event h
@@ -383,11 +375,7 @@ par_covers entry split left right i x y l r (inr (inr (inr b))) =
 
 -- each event before y is named, or before one that is
 pub before_covered : (entry : Option ℕ) (phrase : Term) (i x y : ℕ) → IsBefore phrase i x y → IsCovered phrase i (needs_behind entry phrase i y) x
-before_covered entry cpy i x y h = absurd h
-before_covered entry sig i x y h = absurd h
-before_covered entry hsh i x y h = absurd h
-before_covered entry (usm asp) i x y h = absurd h
-before_covered entry (kim target asp) i x y h = absurd h
+before_covered entry (leaf form) i x y h = absurd h
 before_covered entry (at asked body) i x y h = request_covers entry asked body i x y (λ w. before_covered (Some i) body (i + 1) w y) h
 before_covered entry (chain left right) i x y h =
     chain_covers entry left right i x y (before_covered entry left i x y) (λ w. before_covered (Some (i + event_count left - 1)) right (i + event_count left) w y) h
@@ -405,11 +393,7 @@ only_rises : (entry : Option ℕ) → Rises (only entry)
 only_rises entry second e = absurd (cc)
 
 pub needs_rise : (entry : Option ℕ) (phrase : Term) (i y : ℕ) → Rises (needs_behind entry phrase i y)
-needs_rise entry cpy i y = only_rises entry
-needs_rise entry sig i y = only_rises entry
-needs_rise entry hsh i y = only_rises entry
-needs_rise entry (usm asp) i y = only_rises entry
-needs_rise entry (kim target asp) i y = only_rises entry
+needs_rise entry (leaf form) i y = only_rises entry
 needs_rise entry (at asked body) i y =
     by_place y i (i + 1 + event_count body) (only entry) (needs_behind (Some i) body (i + 1) y) (only (Some (i + event_count body))) Rises
     (λ e. only_rises entry) (λ ne lt. needs_rise (Some i) body (i + 1) y) (λ ge. only_rises (Some (i + event_count body)))

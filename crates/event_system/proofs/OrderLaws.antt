@@ -2,7 +2,7 @@
 -- up to where the next one starts.
 use Rattle.std.proofs.Common.{◌≡◌, ℕ, List, [], ◌+◌, ◌≤◌, ◌<◌, ◌⊎◌, inl, inr, refl, arith}
 use Rattle.std.proofs.lemmas.Bool.{cases_lt}
-use Rattle.phrase_tree.specs.Term.{Term, cpy, sig, hsh, usm, kim, at, chain, seq, par}
+use Rattle.phrase_tree.specs.Term.{Term, leaf, at, chain, seq, par}
 use Rattle.phrase_tree.specs.Numbering.{event_count}
 use Rattle.event_system.specs.Order.{Opens, Closes, Crosses, IsBefore}
 
@@ -14,11 +14,7 @@ pub record IsRising (low high x y : ℕ) : Type 0 where
 
 -- a phrase has an event
 pub some_event : (phrase : Term) → 0 < event_count phrase
-some_event cpy = omega arith
-some_event sig = omega arith
-some_event hsh = omega arith
-some_event (usm asp) = omega arith
-some_event (kim target asp) = omega arith
+some_event (leaf form) = omega arith
 some_event (at asked body) = omega arith
 some_event (chain left right) = omega (arith, some_event left)
 some_event (seq split left right) = omega arith
@@ -26,11 +22,7 @@ some_event (par split left right) = omega arith
 
 -- only events of the phrase are ordered, and the earlier has the lesser number
 pub before_rises : (phrase : Term) (i x y : ℕ) → IsBefore phrase i x y → IsRising i (i + event_count phrase) x y
-before_rises cpy i x y h = absurd h
-before_rises sig i x y h = absurd h
-before_rises hsh i x y h = absurd h
-before_rises (usm asp) i x y h = absurd h
-before_rises (kim target asp) i x y h = absurd h
+before_rises (leaf form) i x y h = absurd h
 before_rises (at asked body) i x y (inl o) = record { from = omega arith; less = omega arith; below = omega arith }
 before_rises (at asked body) i x y (inr (inl c)) = record { from = omega arith; less = omega arith; below = omega arith }
 before_rises (at asked body) i x y (inr (inr b)) =
@@ -147,11 +139,7 @@ request_transitive asked body i x y z b h k =
 
 -- the order is transitive
 pub before_transitive : (phrase : Term) (i x y z : ℕ) → IsBefore phrase i x y → IsBefore phrase i y z → IsBefore phrase i x z
-before_transitive cpy i x y z h k = absurd h
-before_transitive sig i x y z h k = absurd h
-before_transitive hsh i x y z h k = absurd h
-before_transitive (usm asp) i x y z h k = absurd h
-before_transitive (kim target asp) i x y z h k = absurd h
+before_transitive (leaf form) i x y z h k = absurd h
 before_transitive (at asked body) i x y z h k = request_transitive asked body i x y z (before_transitive body (i + 1) x y z) h k
 before_transitive (chain left right) i x y z h k =
     chain_transitive left right i x y z (before_transitive left i x y z) (before_transitive right (i + event_count left) x y z) h k
@@ -170,11 +158,7 @@ chain_first left right i y l from below =
 
 -- the first event of a phrase is before all others
 pub first_before : (phrase : Term) (i y : ℕ) → i < y → y < i + event_count phrase → IsBefore phrase i i y
-first_before cpy i y from below = absurd (omega arith)
-first_before sig i y from below = absurd (omega arith)
-first_before hsh i y from below = absurd (omega arith)
-first_before (usm asp) i y from below = absurd (omega arith)
-first_before (kim target asp) i y from below = absurd (omega arith)
+first_before (leaf form) i y from below = absurd (omega arith)
 first_before (at asked body) i y from below = inl (record { first = refl; later = omega arith; below = omega arith })
 first_before (chain left right) i y from below = chain_first left right i y (first_before left i y from) from (omega arith)
 first_before (seq split left right) i y from below = inl (record { first = refl; later = omega arith; below = omega arith })
@@ -182,11 +166,7 @@ first_before (par split left right) i y from below = inl (record { first = refl;
 
 -- the last event of a phrase is after all others
 pub before_last : (phrase : Term) (i x y : ℕ) → i ≤ x → x < y → y + 1 ≡ i + event_count phrase → IsBefore phrase i x y
-before_last cpy i x y from less last = absurd (omega arith)
-before_last sig i x y from less last = absurd (omega arith)
-before_last hsh i x y from less last = absurd (omega arith)
-before_last (usm asp) i x y from less last = absurd (omega arith)
-before_last (kim target asp) i x y from less last = absurd (omega arith)
+before_last (leaf form) i x y from less last = absurd (omega arith)
 before_last (at asked body) i x y from less last = inr (inl (record { from = omega arith; earlier = omega arith; last = omega arith }))
 before_last (chain left right) i x y from less last =
     let some = some_event right in

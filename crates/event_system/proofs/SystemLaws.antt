@@ -5,7 +5,7 @@ use Rattle.std.proofs.lemmas.Bool.{cases_lt, cases_eq}
 use Rattle.std.specs.Prelude.{Result, Ok, Err, IfOk, ◌↔◌}
 use Rattle.phrase_tree.specs.declared.memory.NoMemory.{NoMemory}
 use Rattle.event_system.specs.declared.system.EventSystem.{EventSystem}
-use Rattle.phrase_tree.specs.Term.{Term, cpy, sig, hsh, usm, kim, at, chain, seq, par}
+use Rattle.phrase_tree.specs.Term.{Term, leaf as leaf_of, at, chain, seq, par}
 use Rattle.phrase_tree.specs.Numbering.{event_count}
 use Rattle.phrase_tree.specs.Events.{Event, event, events_of, requests, replies, splits, joins}
 use Rattle.event_system.specs.Order.{IsWithin, IsEvent, IsBefore}
@@ -14,11 +14,7 @@ use Rattle.event_system.proofs.OrderLaws.{Framed, Joined}
 
 -- the leaves are the event list
 pub leaves_are : (phrase : Term) (place : List ℕ) (i : ℕ) → leaves (system_from phrase place i) ≡ events_of phrase place i
-leaves_are cpy place i = refl
-leaves_are sig place i = refl
-leaves_are hsh place i = refl
-leaves_are (usm asp) place i = refl
-leaves_are (kim target asp) place i = refl
+leaves_are (leaf_of form) place i = refl
 leaves_are (at asked body) place i =
     ap (λ inside. event i (requests asked) place ∷ (inside ++ event (i + 1 + event_count body) (replies asked) place ∷ [])) (leaves_are body asked (i + 1))
 leaves_are (chain left right) place i =
@@ -32,11 +28,7 @@ leaves_are (par split left right) place i =
 
 -- the numbers of its leaves are those of the phrase
 number_within : (phrase : Term) (place : List ℕ) (i n : ℕ) → HasNumber (system_from phrase place i) n → IsEvent phrase i n
-number_within cpy place i n e = record { from = omega arith; below = omega arith }
-number_within sig place i n e = record { from = omega arith; below = omega arith }
-number_within hsh place i n e = record { from = omega arith; below = omega arith }
-number_within (usm asp) place i n e = record { from = omega arith; below = omega arith }
-number_within (kim target asp) place i n e = record { from = omega arith; below = omega arith }
+number_within (leaf_of form) place i n e = record { from = omega arith; below = omega arith }
 number_within (at asked body) place i n (inl e) = record { from = omega arith; below = omega arith }
 number_within (at asked body) place i n (inr (inl h)) =
     let r = number_within body asked (i + 1) n h in
@@ -66,11 +58,7 @@ number_within (par split left right) place i n (inr (inl (inr h))) =
 number_within (par split left right) place i n (inr (inr e)) = record { from = omega arith; below = omega arith }
 
 has_number : (phrase : Term) (place : List ℕ) (i n : ℕ) → IsEvent phrase i n → HasNumber (system_from phrase place i) n
-has_number cpy place i n e = omega arith
-has_number sig place i n e = omega arith
-has_number hsh place i n e = omega arith
-has_number (usm asp) place i n e = omega arith
-has_number (kim target asp) place i n e = omega arith
+has_number (leaf_of form) place i n e = omega arith
 has_number (at asked body) place i n e =
     elim (cases_eq n i) [
       | inl first ↦ inl first
@@ -180,11 +168,7 @@ chain_ordered left right place i x y l r h =
 
 -- the event system orders only what the phrase orders
 pub orders_before : (phrase : Term) (place : List ℕ) (i x y : ℕ) → Orders (system_from phrase place i) x y → IsBefore phrase i x y
-orders_before cpy place i x y h = h
-orders_before sig place i x y h = h
-orders_before hsh place i x y h = h
-orders_before (usm asp) place i x y h = h
-orders_before (kim target asp) place i x y h = h
+orders_before (leaf_of form) place i x y h = h
 orders_before (at asked body) place i x y h =
     frame_orders (event i (requests asked) place) (event (i + 1 + event_count body) (replies asked) place) (system_from body asked (i + 1)) (i + (2 + event_count body)) x y (IsBefore body (i + 1) x y) (omega arith) (omega arith) (number_within body asked (i + 1)) (orders_before body asked (i + 1) x y) h
 orders_before (chain left right) place i x y h =
@@ -198,11 +182,7 @@ orders_before (par split left right) place i x y h =
 
 -- and all that the phrase orders
 pub before_orders : (phrase : Term) (place : List ℕ) (i x y : ℕ) → IsBefore phrase i x y → Orders (system_from phrase place i) x y
-before_orders cpy place i x y h = h
-before_orders sig place i x y h = h
-before_orders hsh place i x y h = h
-before_orders (usm asp) place i x y h = h
-before_orders (kim target asp) place i x y h = h
+before_orders (leaf_of form) place i x y h = h
 before_orders (at asked body) place i x y h =
     ordered_in_frame (event i (requests asked) place) (event (i + 1 + event_count body) (replies asked) place) (system_from body asked (i + 1)) (i + (2 + event_count body)) x y (IsBefore body (i + 1) x y) (omega arith) (has_number body asked (i + 1)) (before_orders body asked (i + 1) x y) h
 before_orders (chain left right) place i x y h =

@@ -1,7 +1,7 @@
 -- Small phrases worked by hand: an edit of the definitions is refused here.
 use Rattle.std.proofs.Common.{◌≡◌, ℕ, zero, suc, ◌<◌, true, [], ◌∷◌, get_or, map, inl, inr, refl, Some, None, arith}
 use Rattle.phrase_tree.specs.declared.phrase.Split.{Split}
-use Rattle.phrase_tree.specs.Term.{Term, cpy, sig, at, chain, seq, par}
+use Rattle.phrase_tree.specs.Term.{Term, cpy, sig, leaf, at, chain, seq, par}
 use Rattle.event_system.specs.Order.{IsBefore}
 use Rattle.event_system.specs.Trace.{IsTraceSoFar}
 use Rattle.event_system.specs.Needs.{only, needs_of}
@@ -11,14 +11,14 @@ both = record { left = true; right = true }
 
 -- a request to a place, two leaves there, and its reply
 abbrev remote : Term
-remote = at (113 ∷ []) (chain cpy sig)
+remote = at (113 ∷ []) (chain (leaf cpy) (leaf sig))
 
 -- a split, two arms of one leaf, and a join
 abbrev fork : Term
-fork = par both cpy cpy
+fork = par both (leaf cpy) (leaf cpy)
 
 abbrev row : Term
-row = seq both cpy cpy
+row = seq both (leaf cpy) (leaf cpy)
 
 remote_needs : map (needs_of remote) (0 ∷ 1 ∷ 2 ∷ 3 ∷ 4 ∷ []) ≡ only None ∷ only (Some 0) ∷ only (Some 1) ∷ only (Some 2) ∷ only None ∷ []
 remote_needs = refl
@@ -30,7 +30,7 @@ row_needs : map (needs_of row) (0 ∷ 1 ∷ 2 ∷ 3 ∷ 4 ∷ []) ≡ only None 
 row_needs = refl
 
 -- a leaf after a fork needs its join
-after_fork : needs_of (chain fork cpy) 4 ≡ only (Some 3)
+after_fork : needs_of (chain fork (leaf cpy)) 4 ≡ only (Some 3)
 after_fork = refl
 
 row_in_order : IsBefore row 0 1 2

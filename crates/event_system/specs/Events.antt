@@ -1,8 +1,8 @@
 -- The events of the program as those of the event list.
-use Rattle.phrase_tree.specs.Events.{Kind, copies, measures, measures_at, seals, hashes, requests, replies, splits, joins, event}
+use Rattle.phrase_tree.specs.Events.{Kind, copies, measures, measures_at, seals, hashes, empties, requests, replies, splits, joins, event}
 use Rattle.phrase_tree.specs.Events as listed
 use Rattle.event_system.specs.declared.event.EventKind.{EventKind}
-use Rattle.event_system.specs.declared.event.EventKind.TheVariants.{Cpy, Usm, Kim, Sig, Hsh, Req, Rpl, Split, Join}
+use Rattle.event_system.specs.declared.event.EventKind.TheVariants.{Cpy, Usm, Kim, Sig, Hsh, Nul, Req, Rpl, Split, Join}
 use Rattle.event_system.specs.declared.event.Event.{Event}
 
 -- what happens, as the event list has it
@@ -12,6 +12,7 @@ kind_of (Usm asp) = measures asp
 kind_of (Kim target asp) = measures_at target asp
 kind_of Sig = seals
 kind_of Hsh = hashes
+kind_of Nul = empties
 kind_of (Req asked) = requests asked
 kind_of (Rpl asked) = replies asked
 kind_of Split = splits

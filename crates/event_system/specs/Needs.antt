@@ -1,7 +1,7 @@
 -- The direct predecessors of an event, by going down the phrase. That they are the direct
 -- predecessors of the order is a law.
 use Rattle.std.specs.Prelude.{◌≡◌, ◌+◌, ◌-◌, ◌<◌, ◌⊎◌, ◌↔◌, ℕ, Option, Some, None, nat_eq, nat_lt, if◌then◌else◌}
-use Rattle.phrase_tree.specs.Term.{Term, cpy, sig, hsh, usm, kim, at, chain, seq, par}
+use Rattle.phrase_tree.specs.Term.{Term, leaf, at, chain, seq, par}
 use Rattle.phrase_tree.specs.Numbering.{event_count}
 use Rattle.event_system.specs.declared.direct.Needs.{Needs}
 use Rattle.event_system.specs.Order.{IsDirectlyBefore}
@@ -17,11 +17,7 @@ Names needs x = (needs.first ≡ Some x) ⊎ (needs.second ≡ Some x)
 -- the direct predecessors of y in a phrase that starts at `i`, where the event that the phrase is
 -- entered from, if there is one, is that of its first event
 abbrev pub needs_behind : Option ℕ → Term → ℕ → ℕ → Needs
-needs_behind entry cpy i y = only entry
-needs_behind entry sig i y = only entry
-needs_behind entry hsh i y = only entry
-needs_behind entry (usm asp) i y = only entry
-needs_behind entry (kim target asp) i y = only entry
+needs_behind entry (leaf form) i y = only entry
 needs_behind entry (at asked body) i y =
     if nat_eq y i then only entry
     else if nat_lt y (i + 1 + event_count body) then needs_behind (Some i) body (i + 1) y

@@ -1,6 +1,6 @@
 -- The order of the events of a phrase (POST 2019, event systems), over their numbers.
 use Rattle.std.specs.Prelude.{◌≡◌, ◌+◌, ◌≤◌, ◌<◌, ◌⊎◌, ℕ}
-use Rattle.phrase_tree.specs.Term.{Term, cpy, sig, hsh, usm, kim, at, chain, seq, par}
+use Rattle.phrase_tree.specs.Term.{Term, leaf, at, chain, seq, par}
 use Rattle.phrase_tree.specs.Numbering.{event_count}
 
 -- a number of the range from `low` up to `high`, which is no longer in it
@@ -35,11 +35,7 @@ pub record Crosses (low middle high x y : ℕ) : Type 0 where
 -- open, a reply and a join are after it; in a chain and in a sequential branch all of the left part
 -- is before all of the right part; inside a part its own order holds
 abbrev pub IsBefore : Term → ℕ → ℕ → ℕ → Type 0
-IsBefore cpy i x y = ⊥
-IsBefore sig i x y = ⊥
-IsBefore hsh i x y = ⊥
-IsBefore (usm asp) i x y = ⊥
-IsBefore (kim target asp) i x y = ⊥
+IsBefore (leaf form) i x y = ⊥
 IsBefore (at asked body) i x y =
     Opens i (i + (2 + event_count body)) x y
     ⊎ (Closes i (i + (2 + event_count body)) x y ⊎ IsBefore body (i + 1) x y)

@@ -1,8 +1,8 @@
 -- Event systems without pointers (POST 2019): what clauses see of an `EventSystem`.
 use Rattle.std.specs.Prelude.{◌≡◌, ◌+◌, ◌⊎◌, ℕ, List, [], ◌∷◌, ◌++◌}
-use Rattle.phrase_tree.specs.Term.{Term, cpy, sig, hsh, usm, kim, at, chain, seq, par}
+use Rattle.phrase_tree.specs.Term.{Term, leaf as leaf_of, at, chain, seq, par}
 use Rattle.phrase_tree.specs.Numbering.{event_count}
-use Rattle.phrase_tree.specs.Events.{Event, copies, measures, measures_at, seals, hashes, requests, replies, splits, joins, event}
+use Rattle.phrase_tree.specs.Events.{Event, requests, replies, splits, joins, event, leaf_kind}
 use Rattle.event_system.specs.declared.system.EventSystem.{EventSystem, Leaf, Before', Merge'}
 use Rattle.event_system.specs.Events.{event_of}
 
@@ -39,11 +39,7 @@ Orders (merge left right) x y = Orders left x y ⊎ Orders right x y
 
 -- the event system of a phrase that a place runs from a number on
 abbrev pub system_from : Term → List ℕ → ℕ → System
-system_from cpy place i = leaf (event i copies place)
-system_from sig place i = leaf (event i seals place)
-system_from hsh place i = leaf (event i hashes place)
-system_from (usm asp) place i = leaf (event i (measures asp) place)
-system_from (kim target asp) place i = leaf (event i (measures_at target asp) place)
+system_from (leaf_of form) place i = leaf (event i (leaf_kind form) place)
 system_from (at asked body) place i =
     before
     (leaf (event i (requests asked) place))

@@ -1,7 +1,7 @@
 ghost use Rattle.std.specs.Prelude.{◌≡◌, None};
 ghost use Rattle.event_system.specs.Needs.{only};
 
-/// The direct predecessors of an event: none, one, or two of which the first has the lesser number.
+/// The direct predecessors of an event: none, one, or two, with the lesser number first.
 #[derive(Clone, Copy, Debug, PartialEq, Eq)]
 pub struct Needs {
     pub first: Option<u32>,

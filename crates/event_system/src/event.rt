@@ -10,6 +10,7 @@ pub enum EventKind {
     Kim(Place, Asp),
     Sig,
     Hsh,
+    Nul,
     Req(Place),
     Rpl(Place),
     Split,

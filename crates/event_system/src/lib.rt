@@ -18,7 +18,7 @@ mod trace;
 pub use direct::Needs;
 pub use event::{Event, EventKind};
 pub use fault::TraceFault;
-pub use laws::{order_law, rising_law, system_law};
+pub use laws::{list_law, needs_law, order_law, rising_law, system_law, trace_law};
 pub use list::{EventList, list_of};
 pub use order::before;
 pub use predecessors::needs;

@@ -38,7 +38,8 @@ impl EventList {
         &self.events
     }
 
-    /// Appends an event. An error is want of memory: it hands the event back, and the list stays.
+    /// Appends an event. An error is want of memory: it hands the event back, and the list is
+    /// unchanged.
     pub fn push(&mut self, item: Event) -> Result<(), Event>
         ensures ok { OnOk result (self.new ≡ self.old ++ item ∷ []) }
         ensures handed_back { IfErr result (λ event. event ≡ item) }
@@ -92,6 +93,7 @@ fn push_events(
         Phrase::Cpy => push_event(list, first, EventKind::Cpy, place),
         Phrase::Sig => push_event(list, first, EventKind::Sig, place),
         Phrase::Hsh => push_event(list, first, EventKind::Hsh, place),
+        Phrase::Nul => push_event(list, first, EventKind::Nul, place),
         Phrase::Usm(asp) => push_event(list, first, EventKind::Usm(asp.copy()), place),
         Phrase::Kim(target, asp) => {
             push_event(list, first, EventKind::Kim(*target, asp.copy()), place)

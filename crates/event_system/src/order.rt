@@ -83,7 +83,12 @@ fn walk(phrase: &Phrase, low: u32, first: u32, second: u32) -> Walked
     ensures next { result.next ≡ low + event_count (term phrase.now) }
 {
     match phrase {
-        Phrase::Cpy | Phrase::Sig | Phrase::Hsh | Phrase::Usm(_) | Phrase::Kim(_, _) => Walked {
+        Phrase::Cpy
+        | Phrase::Sig
+        | Phrase::Hsh
+        | Phrase::Nul
+        | Phrase::Usm(_)
+        | Phrase::Kim(_, _) => Walked {
             before: false,
             next: low + 1,
         },
@@ -110,7 +115,7 @@ fn walk(phrase: &Phrase, low: u32, first: u32, second: u32) -> Walked
     }
 }
 
-/// Whether one event of a phrase is before another; `false` where either number is no event of it.
+/// Whether one event of a phrase is before another; `false` if either number is not an event of it.
 /// Takes no memory, and time linear in the phrase.
 pub fn before(phrase: &Phrase, first: u32, second: u32) -> bool
     requires { IsSized (term phrase.now) }

@@ -32,9 +32,12 @@ fn look(phrase: &Phrase, first: u32, entry: Option<u32>, event: u32) -> Sought
     ensures { IsSought entry (term phrase.now) first event result }
 {
     match phrase {
-        Phrase::Cpy | Phrase::Sig | Phrase::Hsh | Phrase::Usm(_) | Phrase::Kim(_, _) => {
-            at_last(first, Needs::only(entry), event)
-        }
+        Phrase::Cpy
+        | Phrase::Sig
+        | Phrase::Hsh
+        | Phrase::Nul
+        | Phrase::Usm(_)
+        | Phrase::Kim(_, _) => at_last(first, Needs::only(entry), event),
         Phrase::Then(left, right) => match look(left, first, entry, event) {
             Sought::Found(needs) => Sought::Found(needs),
             Sought::Past(middle) => look(right, middle, Some(middle - 1), event),
@@ -79,12 +82,11 @@ fn found(phrase: &Phrase, event: u32) -> Needs
     }
 }
 
-/// The direct predecessors of an event, in rising order; none where the number is no event of the
+/// The direct predecessors of an event, in rising order; none if the number is not an event of the
 /// phrase. Takes no memory, and time linear in the phrase: one walk down it.
 pub fn needs(phrase: &Phrase, event: u32) -> Needs
     requires { IsSized (term phrase.now) }
-    ensures is { result ≡ needs_of (term phrase.now) event }
-    ensures direct { AreNeeds (term phrase.now) event result }
+    ensures { AreNeeds (term phrase.now) event result }
 {
     found(phrase, event)
 }

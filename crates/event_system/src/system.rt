@@ -96,6 +96,7 @@ fn system_part(alloc: Global, phrase: &Phrase, place: Place, first: u32) -> Resu
         Phrase::Cpy => Ok(single(first, EventKind::Cpy, place)),
         Phrase::Sig => Ok(single(first, EventKind::Sig, place)),
         Phrase::Hsh => Ok(single(first, EventKind::Hsh, place)),
+        Phrase::Nul => Ok(single(first, EventKind::Nul, place)),
         Phrase::Usm(asp) => Ok(single(first, EventKind::Usm(asp.copy()), place)),
         Phrase::Kim(target, asp) => Ok(single(first, EventKind::Kim(*target, asp.copy()), place)),
         Phrase::At(asked, body) => {
@@ -140,7 +141,7 @@ fn whole_system(alloc: Global, phrase: &Phrase, place: Place) -> Result<EventSys
 }
 
 /// The event system of a phrase that starts at `place`, with events numbered from 0. Its leaves from
-/// left to right are the event list, and a `Before` orders two events exactly where the order does.
+/// left to right are the event list, and a `Before` orders two events exactly when the order does.
 /// Takes memory, and time, linear in the phrase.
 pub fn system_of(alloc: Global, phrase: &Phrase, place: Place) -> Result<EventSystem, NoMemory>
     requires { IsSized (term phrase.now) }

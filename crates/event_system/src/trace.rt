@@ -121,9 +121,9 @@ fn first_fault(phrase: &Phrase, trace: &[u32]) -> Option<TraceFault>
     }
 }
 
-/// The first fault of a list that should be a trace of the phrase: positions are looked at from 0,
-/// and last it is asked which event is lacking. None exactly where the list is a trace. Takes no
-/// memory, and time that grows with the product of the phrase's events and the numbers in the list.
+/// The first fault of a list that should be a trace of the phrase: positions are checked from 0 on, and
+/// then whether an event is missing. None exactly when the list is a trace. Takes no memory, and time
+/// that grows with the product of the phrase's events and the numbers in the list.
 pub fn trace_fault(phrase: &Phrase, trace: &[u32]) -> Option<TraceFault>
     requires { IsSized (term phrase.now) }
     ensures fault { (fault : TraceFault) →

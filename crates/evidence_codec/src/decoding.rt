@@ -48,7 +48,7 @@ fn head_within(edge: Fault, depth: usize, bytes: &[u8]) -> Result<(Head, &[u8]),
     })
 }
 
-/// The value at the front of the bytes, and the bytes behind it.
+/// The value at the front of the bytes, and the bytes after it.
 fn value_at(alloc: Global, edge: Fault, bytes: &[u8]) -> Result<(Value, &[u8]), DecodeError>
     requires { length bytes.now ≤ edge.at }
     ensures read { Decodes (λ found. (evidence found.0, found.1.now)) result (value_at edge 1025 bytes.now) }
@@ -197,8 +197,8 @@ fn read_bundle(alloc: Global, bytes: &[u8]) -> Result<Value, DecodeError>
     value_of_length(alloc, len, rest)
 }
 
-/// The value whose bundle these bytes are. Where they are none, the first fault from the left, with
-/// its offset; or want of memory.
+/// The value whose bundle these bytes are. If they are not a bundle, the first fault from the left,
+/// with its offset; or want of memory.
 ///
 /// The bytes are read once from the left, in time linear in the value that they claim to hold. The
 /// nodes that are open, at most 1,025, are kept in a list of their own, so hostile bytes cost no

@@ -105,9 +105,9 @@ fn push_value(out: &mut Vec<u8>, value: &Value) -> Result<(), NoMemory>
     }
 }
 
-/// The bundle of a value: five bytes that never change, the length of the value's bytes, and those.
-/// It is made in one allocation of its size. It takes two walks over the value, in time linear in
-/// its bytes. The format is this project's own.
+/// The bundle of a value: five bytes that never change, the length of the value's bytes, and these
+/// bytes. It is made in one allocation of its size. It goes over the value twice, in time linear in its
+/// bytes. The format is this project's own.
 pub fn encode(alloc: Global, value: &Value) -> Result<Bytes, NoMemory>
     requires { FitsBundle (evidence value.now) }
     ensures bundle { IfOk result (λ bytes. bytes ≡ bundle (evidence value.now)) }

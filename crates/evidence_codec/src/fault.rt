@@ -1,13 +1,13 @@
-/// What is wrong with bytes that are no bundle.
+/// What is wrong with bytes that are not a bundle.
 #[derive(Clone, Copy, Debug, PartialEq, Eq)]
 pub enum BadKind {
-    /// The bytes end where one is wanted.
+    /// The bytes end where another one is needed.
     Short,
-    /// The first bytes are not those of a bundle, or a tag is that of no node.
+    /// The first bytes are not those of a bundle, or a tag is not that of a node.
     Tag,
-    /// A length is too large, or the length of the value is another than the bundle says.
+    /// A length is too large, or the value does not have the length that the bundle says.
     Length,
-    /// Bytes stand after the bundle.
+    /// Bytes follow the bundle.
     Rest,
     /// The nodes nest too deep.
     Deep,
@@ -23,7 +23,7 @@ pub struct Fault {
 /// Why bytes were not decoded.
 #[derive(Clone, Copy, Debug, PartialEq, Eq)]
 pub enum DecodeError {
-    /// The bytes are no bundle: the first fault from the left.
+    /// The bytes are not a bundle: the first fault from the left.
     Bad { at: u32, kind: BadKind },
     NoMemory,
 }

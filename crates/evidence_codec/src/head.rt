@@ -21,7 +21,7 @@ pub enum Head {
     Whole(Value),
     /// It has one part.
     Under(Over),
-    /// It has a left and a right part, of a parallel branch where `true`.
+    /// It has a left and a right part; `true` if they are those of a parallel branch.
     Pair(bool),
 }
 
@@ -92,7 +92,7 @@ fn fields_at(edge: Fault, at: u32, tag: u8, rest: &[u8]) -> Result<(Head, &[u8])
     }
 }
 
-/// The node at the front of the bytes, without its parts, and the bytes behind its fields.
+/// The node at the front of the bytes, without its parts, and the bytes after its fields.
 #[tactic(auto, unfolding(crate::specs::Reading::head_at))]
 pub fn head_at(edge: Fault, bytes: &[u8]) -> Result<(Head, &[u8]), Fault>
     requires { length bytes.now ≤ edge.at }

@@ -16,7 +16,7 @@ pub fn one_value()
     ensures { (left right : Evidence) → IsWellFormed left → IsWellFormed right → bundle left ≡ bundle right → left ≡ right }
 {}
 
-/// Bytes have a fault exactly where they are no bundle.
+/// Bytes have a fault exactly when they are not a bundle.
 pub fn fault_or_bundle()
     ensures { (bytes : List ℕ) → ((index : ℕ) → slice_index bytes index < 256) → (first_fault bytes ≡ None) ↔ IsBundle bytes }
 {}

@@ -91,7 +91,7 @@ fn push(nodes: &mut Vec<Open>, node: Open) -> Result<(), NoMemory>
 }
 
 /// Puts a whole value into the innermost open node, and each node that it makes whole into the next
-/// one. All is read where no node is open any more.
+/// one. All is read once no node is open any more.
 fn close(alloc: Global, nodes: &mut Vec<Open>, value: Value) -> Result<Option<Value>, NoMemory>
     ensures { IfOk result (λ all. Closes (opens_of nodes.old.items) (evidence value) (opens_of nodes.new.items) (whole_of all)) }
 {
@@ -109,8 +109,8 @@ fn close(alloc: Global, nodes: &mut Vec<Open>, value: Value) -> Result<Option<Va
     Ok(Some(whole))
 }
 
-/// Opens the node of this head, or closes what it makes whole. All is read where no node is open
-/// any more.
+/// Opens the node of this head, or closes what it makes whole. All is read once no node is open any
+/// more.
 pub fn take(alloc: Global, nodes: &mut Vec<Open>, head: Head) -> Result<Option<Value>, NoMemory>
     ensures { IfOk result (λ all. Takes (opens_of nodes.old.items) (head_of head) (opens_of nodes.new.items) (whole_of all)) }
 {

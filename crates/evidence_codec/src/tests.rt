@@ -16,20 +16,20 @@ const MEASURED: [u8; 35] = [
     10, 11, 12, 13, 14, 15,
 ];
 
-/// The bundle of two measurements in parallel, one over the nonce and one over nothing.
+/// The bundle of two measurements in parallel, one over the nonce and one over empty evidence.
 const IN_PARALLEL: [u8; 44] = [
     67, 80, 76, 66, 1, 0, 0, 0, 35, 7, 2, 0, 0, 0, 1, 0, 1, 17, 1, 0, 1, 2, 3, 4, 5, 6, 7, 8, 9,
     10, 11, 12, 13, 14, 15, 2, 0, 0, 0, 2, 0, 1, 34, 0,
 ];
 
-/// The bundle of two measurements in sequence, one over nothing and one over the nonce.
+/// The bundle of two measurements in sequence, one over empty evidence and one over the nonce.
 const IN_SEQUENCE: [u8; 44] = [
     67, 80, 76, 66, 1, 0, 0, 0, 35, 6, 2, 0, 0, 0, 1, 0, 1, 17, 0, 2, 0, 0, 0, 2, 0, 1, 34, 1, 0,
     1, 2, 3, 4, 5, 6, 7, 8, 9, 10, 11, 12, 13, 14, 15,
 ];
 
-/// A bundle of all eight forms: the pair of a seal over a measurement of a target, and of a
-/// sequential pair of a hash and nothing.
+/// A bundle of all eight forms: the pair of a seal over a measurement of a target, and of a sequential
+/// pair of a hash and empty evidence.
 const OF_ALL_FORMS: [u8; 113] = [
     67, 80, 76, 66, 1, 0, 0, 0, 104, 7, 4, 0, 0, 0, 3, 238, 238, 238, 238, 238, 238, 238, 238, 238,
     238, 238, 238, 238, 238, 238, 238, 238, 238, 238, 238, 238, 238, 238, 238, 238, 238, 238, 238,
@@ -47,7 +47,7 @@ fn bad(at: u32, kind: BadKind) -> Option<DecodeError> {
     Some(DecodeError::Bad { at, kind })
 }
 
-/// Nested measurements with empty answers, and no evidence under the last.
+/// Nested measurements with empty answers, and empty evidence under the last.
 fn nested(alloc: Global, measurements: u32) -> Result<Vec<u8>, AllocError>
     requires { measurements < 2000 }
 {

@@ -43,7 +43,7 @@ fn head_size(node: &Node) -> usize
     }
 }
 
-/// The number of bytes of the value at this place.
+/// The number of bytes of the value at this position.
 fn size(nodes: &[Node], place: usize) -> usize
     requires sound { IsSound nodes.now }
     requires place { place < length nodes.now }
@@ -115,7 +115,7 @@ fn push_head(out: &mut Vec<u8>, node: &Node) -> Result<(), NoMemory>
     }
 }
 
-/// Appends the bytes of the value at this place.
+/// Appends the bytes of the value at this position.
 fn push_value(out: &mut Vec<u8>, nodes: &[Node], place: usize) -> Result<(), NoMemory>
     requires sound { IsSound nodes.now }
     requires place { place < length nodes.now }
@@ -131,7 +131,7 @@ fn push_value(out: &mut Vec<u8>, nodes: &[Node], place: usize) -> Result<(), NoM
     Ok(())
 }
 
-/// The bundle of the value at this place, made in one allocation of its size.
+/// The bundle of the value at this position, made in one allocation of its size.
 pub fn bundle(alloc: Global, nodes: &[Node], place: usize) -> Result<Bytes, NoMemory>
     requires sound { IsSound nodes.now }
     requires place { place < length nodes.now }

@@ -57,7 +57,7 @@ fn feed_head(digester: &mut Digester, node: &Node)
     }
 }
 
-/// Feeds the bytes of the value at this place. It walks the value's nodes, each as often as the
+/// Feeds the bytes of the value at this position. It visits the value's nodes, each as often as the
 /// value has it, in time linear in the value's bytes, and takes no memory.
 pub fn feed_value(digester: &mut Digester, nodes: &[Node], place: usize)
     requires sound { IsSound nodes.now }

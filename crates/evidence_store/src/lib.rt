@@ -2,9 +2,9 @@
 //! good, and values share their parts. Seals and hashes are made while a value is walked, so none
 //! of its bytes are gathered; only its bundle is.
 //!
-//! Clauses see a store as the list of its values, in the order in which they were added, and the
-//! number of additions for which it has room: `Kept` of `specs/Kept.antt`. An id is seen as the
-//! place of its value in that list.
+//! Clauses see a store as the list of its values, in the order in which they were added, and the number
+//! of additions for which it has room: `Kept` of `specs/Kept.antt`. They see an id as the position of
+//! its value in that list.
 #![tactic(auto)]
 
 mod bundle;

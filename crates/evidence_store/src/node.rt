@@ -20,7 +20,7 @@ pub enum Node {
     ParPair(EvId, EvId),
 }
 
-/// Puts the places of a node's parts on a stack of those that wait, the first part on top.
+/// Puts the positions of a node's parts on a stack of those that wait, the first part on top.
 pub fn push_parts(waiting: &mut ArrayVec<usize, 1025>, node: &Node)
     requires { array_vec_len waiting.old + length (parts node.now) ≤ 1025 }
     ensures { waiting.new.items ≡ waiting.old.items ++ parts node.now }
@@ -43,7 +43,7 @@ pub fn push_parts(waiting: &mut ArrayVec<usize, 1025>, node: &Node)
     }
 }
 
-/// Appends a node. Where the list has room it takes no memory.
+/// Appends a node. If the list has room, it takes no memory.
 pub fn push_node(nodes: &mut Vec<Node>, node: Node) -> Result<usize, NoMemory>
     ensures place { IfOk result (λ place. place ≡ vec_len nodes.old) }
     ensures ok { OnOk result (nodes.new.items ≡ nodes.old.items ++ node ∷ []) }

@@ -18,14 +18,14 @@ use std::marker::Model;
 
 /// Values of evidence, each under an id that stands for it for good.
 ///
-/// A value is kept as one node that names its parts by their ids, so values share parts, and one
-/// may have far more bytes than the store has nodes. Every value has at most 262,144 bytes and nests
-/// at most 1,025 deep, which is the condition of each addition. A node takes about 1,060 bytes: an
-/// answer lies in it.
+/// A value is kept as one node that names its parts by their ids, so values share parts, and one may
+/// have far more bytes than the store has nodes. Every value has at most 262,144 bytes and nests at
+/// most 1,025 deep, which is the condition of each addition. A node takes about 1,060 bytes, since an
+/// answer is kept in it.
 ///
-/// An addition where the store has spare takes no memory and succeeds; else it may take memory, and
-/// an error is want of it, after which all stays. An addition takes constant time, but for a seal
-/// and a hash, which take time linear in the bytes that they cover.
+/// If the store has room, an addition takes no memory and succeeds; otherwise it may take memory, and
+/// an error is want of memory, after which everything is as before. An addition takes constant time,
+/// except for seals and hashes, which take time linear in the bytes that they cover.
 #[derive(Debug, Drop)]
 pub struct Store {
     nodes: Vec<Node>,
@@ -60,7 +60,7 @@ impl Store {
         }
     }
 
-    /// Takes room for this many nodes more. An error is want of memory.
+    /// Takes room for this many more nodes. An error is want of memory.
     pub fn reserve(&mut self, nodes: u32) -> Result<(), NoMemory>
         ensures spare { OnOk result (nodes ≤ self.new.spare) }
         ensures rises { self.old.spare ≤ self.new.spare }
@@ -84,7 +84,7 @@ impl Store {
         Ok(EvId::of(place))
     }
 
-    /// Adds no evidence.
+    /// Adds empty evidence.
     pub fn empty(&mut self) -> Result<EvId, NoMemory>
         ensures { Adds self.old evidence.empty result self.new }
     {

@@ -5,8 +5,8 @@ ghost use Rattle.evidence_store.specs.Walk.{Nests, Steps};
 use crate::node::{Node, push_parts};
 use arrayvec::ArrayVec;
 
-/// The places of nodes that a walk has still to visit, the next on top. A value nests at most 1,025
-/// deep, and a walk has no more than one place waiting for each level.
+/// The positions of the nodes that a walk has still to visit, the next on top. A value nests at most
+/// 1,025 deep, and a walk has no more than one position waiting for each level.
 pub type Waiting = ArrayVec<usize, 1025>;
 
 fn node_at(nodes: &[Node], place: usize) -> &Node
@@ -16,8 +16,7 @@ fn node_at(nodes: &[Node], place: usize) -> &Node
     &nodes[place]
 }
 
-/// The node that a walk visits next; its parts come after it. Nothing is left to visit where there
-/// is none.
+/// The node that a walk visits next; its parts come after it. None if nothing is left to visit.
 pub fn next<'a>(nodes: &'a [Node], waiting: &mut Waiting) -> Option<&'a Node>
     requires sound { IsSound nodes.now }
     requires nests { Nests (values_of nodes.now) 0 waiting.old.items }
@@ -33,7 +32,7 @@ pub fn next<'a>(nodes: &'a [Node], waiting: &mut Waiting) -> Option<&'a Node>
     Some(node)
 }
 
-/// A walk that begins at this place.
+/// A walk that begins at this position.
 pub fn walk_from(place: usize) -> Waiting
     ensures { result.items ≡ place ∷ [] }
 {

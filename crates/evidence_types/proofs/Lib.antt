@@ -1,4 +1,6 @@
 mod WorkedBundles
 mod WorkedShapes
 pub mod ShapeLemmas
-pub mod WeightLemmas
+pub mod MeasureLemmas
+pub mod LeastLemmas
+pub mod WithinLemmas

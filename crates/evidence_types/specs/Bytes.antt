@@ -1,6 +1,7 @@
 -- The bytes of a value and of its bundle. They are this project's own.
 use Rattle.std.specs.Prelude.{◌+◌, ◌≤◌, ℕ, List, [], ◌∷◌, ◌++◌, length, max}
 use Rattle.std.specs.Int.{to_be_bytes, w16, w32}
+use Rattle.evidence_types.specs.declared.measure.TheConstants.{VALUE_BYTES, VALUE_NESTING}
 use Rattle.evidence_types.specs.Evidence.{Evidence, empty, nonce, usm, kim, seal, hash, seq_pair, par_pair}
 
 -- a number as two and as four bytes, the highest first
@@ -34,8 +35,8 @@ nesting (par_pair left right) = 1 + max (nesting left) (nesting right)
 
 -- at most 262,144 bytes, and nesting at most 1,025
 pub record FitsBundle (value : Evidence) : Type 0 where
-  pub small : length (encoding value) ≤ 262144
-  pub shallow : nesting value ≤ 1025
+  pub small : length (encoding value) ≤ VALUE_BYTES
+  pub shallow : nesting value ≤ VALUE_NESTING
 
 -- the first bytes of every bundle: "CPLB", and the version 1
 abbrev pub bundle_head : List ℕ

@@ -1,7 +1,7 @@
 -- The shapes of evidence without pointers, the shape of a phrase, and which values fit a shape.
 use Rattle.std.specs.Prelude.{◌≡◌, ◌+◌, ℕ, List, Bool, if◌then◌else◌}
 use Rattle.phrase_tree.specs.declared.measurement.Asp.{Asp}
-use Rattle.phrase_tree.specs.Term.{Term, cpy, sig, hsh, usm, kim, at, chain, seq, par}
+use Rattle.phrase_tree.specs.Term.{Term, Leaf, cpy, sig, hsh, nul, usm, kim, leaf, at, chain, seq, par}
 use Rattle.phrase_tree.specs.Numbering.{event_count}
 use Rattle.evidence_types.specs.Evidence.{Evidence, empty, nonce, usm as usm_value, kim as kim_value, seal, hash, seq_pair, par_pair}
 use Rattle.evidence_types.specs.declared.shape.Shape.{Shape, Empty, Nonce, Usm', Kim', Sig', Hsh', SeqPair', ParPair'}
@@ -36,14 +36,19 @@ form (ParPair' p left q right) = in_parallel (form left) (form right)
 abbrev pub arm_shape : Bool → Form → Form
 arm_shape gets_all before = if gets_all then before else nothing
 
+-- the shape that a leaf makes, at a place and under a number, of the evidence before it
+abbrev pub leaf_shape : Leaf → List ℕ → ℕ → Form → Form
+leaf_shape cpy place i before = before
+leaf_shape sig place i before = sealed i place before
+leaf_shape hsh place i before = hashed i place before
+leaf_shape nul place i before = nothing
+leaf_shape (usm asp) place i before = measured i place asp before
+leaf_shape (kim target asp) place i before = measured_at i place target asp before
+
 -- the shape that a phrase makes, at a place and from a number on, of the evidence before it
 -- (POST 2019, the evidence function)
 abbrev pub shape_from : Term → List ℕ → ℕ → Form → Form
-shape_from cpy place i before = before
-shape_from sig place i before = sealed i place before
-shape_from hsh place i before = hashed i place before
-shape_from (usm asp) place i before = measured i place asp before
-shape_from (kim target asp) place i before = measured_at i place target asp before
+shape_from (leaf form) place i before = leaf_shape form place i before
 shape_from (at asked body) place i before = shape_from body asked (i + 1) before
 shape_from (chain left right) place i before =
     shape_from right place (i + event_count left) (shape_from left place i before)

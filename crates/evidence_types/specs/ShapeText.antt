@@ -1,24 +1,8 @@
 -- The text of a shape. It is this project's own.
 use Rattle.std.specs.Prelude.{ℕ, List, [], ◌∷◌, ◌++◌}
 use Rattle.std.specs.Fmt.{decimal}
-use Rattle.phrase_tree.specs.declared.measurement.Arg.{Arg}
-use Rattle.phrase_tree.specs.declared.measurement.Arg.TheVariants.{Word, Number}
-use Rattle.phrase_tree.specs.declared.measurement.Asp.{Asp}
+use Rattle.phrase_tree.specs.Text.{asp_text}
 use Rattle.evidence_types.specs.Shape.{Form, nothing, the_nonce, measured, measured_at, sealed, hashed, in_sequence, in_parallel}
-
--- an argument: a name, or a number in decimal
-abbrev pub arg_text : Arg → List ℕ
-arg_text (Word name) = name
-arg_text (Number number) = decimal number
-
--- the arguments, each behind a space
-abbrev pub args_text : List Arg → List ℕ
-args_text [] = []
-args_text (arg ∷ rest) = 32 ∷ (arg_text arg ++ args_text rest)
-
--- a measurement: its name and its arguments, with a space between
-abbrev pub asp_text : Asp → List ℕ
-asp_text asp = asp.name ++ args_text asp.args
 
 -- "(place,event,", with which each form that has an event begins, behind its letter
 abbrev pub head_text : List ℕ → ℕ → List ℕ

@@ -28,7 +28,7 @@ impl Model for Answer {
 }
 
 impl Answer {
-    /// The answer with these bytes; none exactly where there are more than 1,024. Takes no memory.
+    /// The answer with these bytes; none exactly when there are more than 1,024. Takes no memory.
     pub fn of(bytes: &[u8]) -> Option<Answer>
         ensures { SomeIff result (FitsAnswer bytes.now) bytes.now }
     {

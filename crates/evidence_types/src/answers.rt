@@ -37,7 +37,7 @@ impl Answers {
         &self.pairs
     }
 
-    /// Appends a pair. An error is want of memory: it hands the pair back, and the list stays.
+    /// Appends a pair. An error is want of memory: it hands the pair back, and the list is unchanged.
     pub fn push(&mut self, item: (u32, Answer)) -> Result<(), (u32, Answer)>
         requires { IsRising (self.old ++ item ∷ []) }
         ensures ok { OnOk result (self.new ≡ self.old ++ item ∷ []) }

@@ -3,12 +3,13 @@
 //! Ramsdell et al., Orchestrating Layered Attestations, POST 2019; the bytes, the weights and the
 //! text of a shape are this project's own.
 //!
-//! Clauses see a value by its pointer-free twin, `evidence value` of `specs/Evidence.antt`, and a
-//! shape by its twin, `form shape` of `specs/Shape.antt`.
+//! Clauses see a value as its pointer-free twin, `evidence value` of `specs/Evidence.antt`, and a shape
+//! as its twin, `form shape` of `specs/Shape.antt`.
 #![tactic(auto)]
 
 mod answer;
 mod answers;
+mod measure;
 mod shape;
 #[cfg(test)]
 mod shape_tests;
@@ -21,8 +22,9 @@ mod weight;
 
 pub use answer::Answer;
 pub use answers::Answers;
+pub use measure::{Measure, VALUE_BYTES, VALUE_NESTING};
 pub use shape::Shape;
 pub use shaping::shape_of;
 pub use text::shape_text;
 pub use value::Value;
-pub use weight::{first_over, weight_is_of_shape, worst};
+pub use weight::{count_is_of_shape, first_over, light_phrases_stay_within, worst};

@@ -5,7 +5,7 @@ ghost use Rattle.phrase_tree.specs.Numbering.{IsSized, depth, event_count};
 use crate::shaping::shape_of;
 use crate::text::shape_text;
 use crate::weight::{first_over, worst};
-use phrase_tree::{Arg, Args, Asp, Name, NoMemory, Phrase, Split};
+use phrase_tree::{Arg, Args, Asp, EVENTS, Name, NoMemory, Phrase, Split};
 use std::alloc::Global;
 use std::process::Abort;
 use std::test::Fail;
@@ -83,6 +83,8 @@ fn shapes_and_weights_are_those_of_worked_phrases(rt: HostRuntime) -> Result<(),
     let pair = both_ways(alloc, all, Phrase::Cpy, Phrase::Cpy)?;
     let hashed = then(alloc, pair, Phrase::Hsh)?;
     expect_shape(&rt, alloc, &hashed, b"H(bank,4,S(N,N))", 72)?;
+    let emptied = then(alloc, Phrase::Usm(asp(&rt, "scan")), Phrase::Nul)?;
+    expect_shape(&rt, alloc, &emptied, b"E", 1048)?;
     let mut files = asp(&rt, "files");
     assert!(rt; files.args.push(Arg::Word(name(&rt, "etc"))).is_ok());
     assert!(rt; files.args.push(Arg::Number(4294967295)).is_ok());
@@ -112,6 +114,7 @@ fn shapes_and_weights_are_those_of_worked_phrases(rt: HostRuntime) -> Result<(),
 enum Part {
     Measured,
     Sealed,
+    Emptied,
     Branched,
 }
 
@@ -123,6 +126,7 @@ fn one_more(rt: &impl Abort, alloc: Global, part: Part) -> Result<Phrase, NoMemo
     match part {
         Part::Measured => Ok(Phrase::Usm(asp(rt, "a"))),
         Part::Sealed => Ok(Phrase::Sig),
+        Part::Emptied => Ok(Phrase::Nul),
         Part::Branched => both_ways(
             alloc,
             Split {
@@ -135,7 +139,7 @@ fn one_more(rt: &impl Abort, alloc: Global, part: Part) -> Result<Phrase, NoMemo
     }
 }
 
-/// A phrase and then a part so many times.
+/// A phrase, and then a part this many times.
 fn followed(
     rt: &impl Abort,
     alloc: Global,
@@ -171,7 +175,29 @@ fn the_weight_of_long_chains_ends_at_its_limit(rt: HostRuntime) -> Result<(), Fa
         let many = followed(&rt, alloc, first, Part::Measured, measured - 1)?;
         let under_seals = followed(&rt, alloc, many, Part::Sealed, sealed)?;
         let phrase = followed(&rt, alloc, under_seals, Part::Branched, branched)?;
-        assert!(rt; phrase.events() <= 1024);
+        assert!(rt; phrase.events() <= EVENTS);
+        assert_eq!(rt; worst(&phrase), weight);
+        assert_eq!(rt; first_over(&phrase), over);
+    }
+    Ok(())
+}
+
+// Seals nest, whatever they weigh: with 1,025 the last one is over. A NUL starts anew, so the 254
+// measurements before it and those behind it are light.
+#[test]
+fn the_nest_of_long_chains_ends_at_its_limit(rt: HostRuntime) -> Result<(), Fail> {
+    let alloc = rt.alloc();
+    for (measured, emptied, sealed, weight, over) in [
+        (0, 0, 1024, 37905, None),
+        (0, 0, 1025, 37942, Some(1025)),
+        (254, 1, 1024, 261891, None),
+        (254, 1, 1025, 261891, Some(1280)),
+        (255, 1, 1025, 262145, Some(255)),
+    ] {
+        let many = followed(&rt, alloc, Phrase::Cpy, Part::Measured, measured)?;
+        let none = followed(&rt, alloc, many, Part::Emptied, emptied)?;
+        let phrase = followed(&rt, alloc, none, Part::Sealed, sealed)?;
+        assert!(rt; phrase.events() <= EVENTS);
         assert_eq!(rt; worst(&phrase), weight);
         assert_eq!(rt; first_over(&phrase), over);
     }

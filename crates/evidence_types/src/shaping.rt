@@ -2,15 +2,15 @@ ghost use Rattle.std.specs.Prelude.{◌≡◌, ◌<◌, ◌+◌, ◌^◌, IfOk};
 ghost use Rattle.phrase_tree.specs.Term.{term};
 ghost use Rattle.phrase_tree.specs.Numbering.{IsSized, event_count};
 ghost use Rattle.evidence_types.specs.Shape.{arm_shape, form, hashed, in_parallel, in_sequence, measured, measured_at, sealed, shape_at, shape_from};
-ghost use Rattle.evidence_types.specs.Weight.{IsLight};
+ghost use Rattle.evidence_types.specs.Measure.{IsLight};
 
 use crate::shape::Shape;
 use phrase_tree::{Asp, NoMemory, Phrase, Place, Split};
 use std::alloc::Global;
 
-/// The shape of the evidence that a session of this phrase makes at this root, from its nonce and
-/// from event 0 on. The evidence that both arms of a branch get stands in the shape twice; a shape has
-/// at most as many parts as it weighs. Takes time linear in the phrase and in the shape.
+/// The shape of the evidence that a session of this phrase makes at this root, from its nonce and from
+/// event 0 on. The evidence that both arms of a branch get is in the shape twice; a shape has at most
+/// as many parts as it weighs. Takes time linear in the phrase and in the shape.
 pub fn shape_of(alloc: Global, phrase: &Phrase, place: Place) -> Result<Shape, NoMemory>
     requires sized { IsSized (term phrase.now) }
     requires light { IsLight (term phrase.now) }
@@ -21,7 +21,7 @@ pub fn shape_of(alloc: Global, phrase: &Phrase, place: Place) -> Result<Shape, N
     Ok(Box::into_inner(made.shape))
 }
 
-/// The shape of a part of a phrase, and the number behind its events.
+/// The shape of a part of a phrase, and the number after its events.
 #[derive(Drop)]
 struct Made {
     shape: Box<Shape>,
@@ -41,7 +41,7 @@ fn boxed(alloc: Global, shape: Shape) -> Result<Box<Shape>, NoMemory>
     }
 }
 
-/// A leaf's shape, and the number behind it.
+/// A leaf's shape, and the number after it.
 fn leaf(number: u32, shape: Box<Shape>) -> Made
     requires { number + 1 < 2 ^ 32 }
     ensures shape { form result.shape.value ≡ form shape.value }
@@ -131,6 +131,10 @@ fn shape_from(
             let shape = hsh(alloc, number, place, before)?;
             Ok(leaf(number, shape))
         }
+        Phrase::Nul => {
+            let shape = boxed(alloc, Shape::Empty)?;
+            Ok(leaf(number, shape))
+        }
         Phrase::Usm(asp) => {
             let shape = usm(alloc, number, place, asp, before)?;
             Ok(leaf(number, shape))
@@ -173,8 +177,8 @@ fn shape_from(
     }
 }
 
-/// The same, in a frame of its own that is small: a chain nests as deep as it is long, while all other
-/// nesting is of brackets, of which few are open.
+/// The same, in a small frame of its own: a chain nests as deep as it is long, while all other nesting
+/// comes from brackets, and few of these are open.
 #[cycle(shaping)]
 fn chained(
     alloc: Global,
@@ -218,7 +222,7 @@ fn arms(
     Ok((before, copied))
 }
 
-/// What one arm starts with, where the other has no use for the evidence.
+/// What one arm starts with if the other does not use the evidence.
 fn arm(alloc: Global, gets_all: bool, before: Box<Shape>) -> Result<Box<Shape>, NoMemory>
     ensures { IfOk result (λ made. form made.value ≡ arm_shape gets_all (form before.value)) }
 {

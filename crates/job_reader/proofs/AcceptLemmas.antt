@@ -3,7 +3,7 @@ use Rattle.std.proofs.Common.{◌≡◌, ◌<◌, ℕ, zero, suc, IsTrue, List, 
 use Rattle.std.specs.Result.{IsErrAnd}
 use Rattle.phrase_tree.specs.Term.{Term}
 use Rattle.session_model.specs.Session.{Session}
-use Rattle.evidence_types.specs.Weight.{oversize_at}
+use Rattle.evidence_types.specs.Measure.{oversize_at}
 use Rattle.place_check.specs.declared.entry.PlaceEntry.{PlaceEntry}
 use Rattle.place_check.specs.declared.entry.PlaceKind.{PlaceKind}
 use Rattle.place_check.specs.Places.{is_place}

@@ -10,7 +10,8 @@ use Rattle.bench_trait.specs.Asking.{ahead_of, question_of, questions_of}
 use Rattle.session_model.specs.Session.{Session}
 use Rattle.job_reader.specs.declared.refusal.JobError.TheVariants.{RepeatedNonce}
 use Rattle.job_reader.specs.Form.{WrittenSession}
-use Rattle.job_reader.specs.Whole.{AreSessionsOf, FindsNothing, FindsTwoNonces, IsFirstRepeat, nonce_index, nonce_repeats}
+use Rattle.phrase_tree.specs.Repeats.{IsFirstRepeat}
+use Rattle.job_reader.specs.Whole.{AreSessionsOf, FindsNothing, FindsTwoNonces, nonce_index, nonce_repeats}
 use Rattle.job_reader.specs.Finding.{IsAccepted, JobView}
 use Rattle.job_reader.specs.Accepted.{AskApart}
 

@@ -13,7 +13,8 @@ use Rattle.std.specs.Result.{result_err}
 use Rattle.job_reader.specs.Faults.{first, job_faults}
 use Rattle.job_reader.proofs.FaultLemmas.{first_fault}
 use Rattle.job_reader.specs.Form.{Fault, Written, WrittenSession, written_in}
-use Rattle.job_reader.specs.Whole.{AreSessionsOf, Finds, FirstFinds, Hindrance, hindrance, hindrance_error, misplaced, oversize, IsFirstRepeat, IsHinderedBy, IsLeast, IsSessionOf, NoneFinds, Test, two_places, two_artefacts, two_references, bad_root, two_nonces, bad_phrase, hindrances, tests}
+use Rattle.phrase_tree.specs.Repeats.{IsFirstRepeat}
+use Rattle.job_reader.specs.Whole.{AreSessionsOf, Finds, FirstFinds, Hindrance, hindrance, hindrance_error, misplaced, oversize, IsHinderedBy, IsLeast, IsSessionOf, NoneFinds, Test, two_places, two_artefacts, two_references, bad_root, two_nonces, bad_phrase, hindrances, tests}
 use Rattle.job_reader.specs.Finding.{accepted, Finding, HasFault, IsAccepted, IsFinding, IsJobOf, IsNoJson, IsRefusedFor, IsTreeOf, IsWritten, JobView, refused}
 use Rattle.job_reader.proofs.ReadLemmas.{read_once}
 use Rattle.job_reader.proofs.RefusalLemmas.{refused_once}

@@ -9,7 +9,8 @@ use Rattle.std.proofs.lemmas.Slice.Eq.{bytes_eq-Decides}
 use Rattle.job_reader.specs.declared.refusal.JobError.{JobError}
 use Rattle.job_reader.specs.declared.refusal.JobError.TheVariants.{RepeatedNonce}
 use Rattle.job_reader.specs.Form.{WrittenSession}
-use Rattle.job_reader.specs.Whole.{FindsNothing, FindsTwoNonces, IsFirstRepeat, nonce_index, nonce_repeats, same_nonce}
+use Rattle.phrase_tree.specs.Repeats.{IsFirstRepeat}
+use Rattle.job_reader.specs.Whole.{FindsNothing, FindsTwoNonces, nonce_index, nonce_repeats, same_nonce}
 use Rattle.job_reader.specs.Testing.{IsNonceIndex, nonce_cmp}
 use Rattle.job_reader.proofs.RepeatLemmas.{first_repeats, no_more_repeats}
 

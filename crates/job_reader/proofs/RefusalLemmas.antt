@@ -1,5 +1,6 @@
 -- A text has at most one refusal.
 use Rattle.std.proofs.Common.{◌≡◌, ◌<◌, ◌≤◌, ◌⊎◌, ℕ, List, [], ◌∷◌, ◌++◌, refl, sym, ap, ◌∙◌, arith, inl, inr}
+use Rattle.phrase_tree.specs.declared.phrase.TheConstants.{EVENTS, BRACKETS}
 use Rattle.phrase_reader.specs.declared.refusal.Kind.{Kind}
 use Rattle.phrase_reader.specs.declared.refusal.Kind.TheVariants.{Char, Word, Expected, Trailing, TooManyArgs, NumberTooLarge, TooDeep, TooLong, TooManyEvents}
 use Rattle.phrase_reader.specs.declared.token.Token.{Token}
@@ -24,14 +25,14 @@ opens_or_counts (tokens.Op op) = inl refl
 opens_or_counts (tokens.Value value) = inl refl
 
 -- the limit on brackets is passed by a token that opens one
-deep_opens : (before : List Token) (token : Token) → open_in before ≤ 64 → 64 < open_in (before ++ token ∷ []) → opens token ≡ 0 → ⊥
+deep_opens : (before : List Token) (token : Token) → open_in before ≤ BRACKETS → BRACKETS < open_in (before ++ token ∷ []) → opens token ≡ 0 → ⊥
 deep_opens before token low high none =
     let opened = opened_joined before (token ∷ []) in
     let closed = closed_joined before (token ∷ []) in
     omega arith
 
 -- the limit on events is passed by a token that counts one
-many_counts : (before : List Token) (token : Token) → events_in before ≤ 1024 → 1024 < events_in (before ++ token ∷ []) → token_events token ≡ 0 → ⊥
+many_counts : (before : List Token) (token : Token) → events_in before ≤ EVENTS → EVENTS < events_in (before ++ token ∷ []) → token_events token ≡ 0 → ⊥
 many_counts before token low high none = let joined = events_joined before (token ∷ []) in omega arith
 
 -- an argument does neither
@@ -46,8 +47,8 @@ data Broken (before : List Token) (token : Token) (kind : Kind) : Type 0 where
   trails : kind ≡ Trailing → IsWhole before → ¬ (IsViable (before ++ token ∷ [])) → Broken before token kind
   misfits : kind ≡ Expected → ¬ (IsWhole before) → ¬ (IsViable (before ++ token ∷ [])) → Broken before token kind
   crowds : kind ≡ TooManyArgs → IsViable (before ++ token ∷ []) → IsFifthArgument before token → Broken before token kind
-  deepens : kind ≡ TooDeep → IsViable (before ++ token ∷ []) → open_in before ≤ 64 → 64 < open_in (before ++ token ∷ []) → Broken before token kind
-  adds : kind ≡ TooManyEvents → IsViable (before ++ token ∷ []) → events_in before ≤ 1024 → 1024 < events_in (before ++ token ∷ []) → Broken before token kind
+  deepens : kind ≡ TooDeep → IsViable (before ++ token ∷ []) → open_in before ≤ BRACKETS → BRACKETS < open_in (before ++ token ∷ []) → Broken before token kind
+  adds : kind ≡ TooManyEvents → IsViable (before ++ token ∷ []) → events_in before ≤ EVENTS → EVENTS < events_in (before ++ token ∷ []) → Broken before token kind
 
 broken : (before : List Token) (token : Token) (kind : Kind) → BreaksRule before token kind → Broken before token kind
 broken before token Trailing rule = trails refl rule.0 rule.1
@@ -60,7 +61,7 @@ broken before token Word rule = absurd rule
 broken before token NumberTooLarge rule = absurd rule
 broken before token TooLong rule = absurd rule
 
-both_limits : (before : List Token) (token : Token) → open_in before ≤ 64 → 64 < open_in (before ++ token ∷ []) → events_in before ≤ 1024 → 1024 < events_in (before ++ token ∷ []) → ⊥
+both_limits : (before : List Token) (token : Token) → open_in before ≤ BRACKETS → BRACKETS < open_in (before ++ token ∷ []) → events_in before ≤ EVENTS → EVENTS < events_in (before ++ token ∷ []) → ⊥
 both_limits before token low high few many =
     elim (opens_or_counts token) [ inl none ↦ deep_opens before token low high none | inr none ↦ many_counts before token few many none ]
 

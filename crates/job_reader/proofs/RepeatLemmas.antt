@@ -8,26 +8,27 @@ use Rattle.bench_trait.specs.declared.artefacts.Artefact.{Artefact}
 use Rattle.job_reader.specs.declared.refusal.JobError.TheVariants.{RepeatedPlace, RepeatedArtefact, RepeatedReference}
 use Rattle.bench_trait.specs.Artefacts.{artefact_index}
 use Rattle.job_reader.specs.Testing.{IsBookOf}
-use Rattle.job_reader.specs.Whole.{IsFirstRepeat, FindsNothing, FindsTwoPlaces, FindsTwoReferences, FindsTwoArtefacts, repeats_by, artefact_repeats, same_artefact}
+use Rattle.phrase_tree.specs.Repeats.{AreDistinct, IsFirstRepeat, repeats_by}
+use Rattle.job_reader.specs.Whole.{FindsNothing, FindsTwoPlaces, FindsTwoReferences, FindsTwoArtefacts, artefact_repeats, same_artefact}
 
 none_is_some : {A : Type 0} (o : Option A) (x : A) → o ≡ None → o ≡ Some x → ⊥
 none_is_some o x none some = cc
 
-pub places_distinct : (entries : List PlaceEntry) → places.AreDistinct entries → FindsNothing (FindsTwoPlaces entries)
+pub places_distinct : (entries : List PlaceEntry) → AreDistinct (places.repeats entries) → FindsNothing (FindsTwoPlaces entries)
 places_distinct entries distinct error (first, second, is, found) =
     none_is_some (places.repeats entries second) first (distinct second) found.repeated
 
-pub places_repeat : (entries : List PlaceEntry) (first second : ℕ) → places.IsFirstRepeat entries first second → FindsTwoPlaces entries (RepeatedPlace first second)
+pub places_repeat : (entries : List PlaceEntry) (first second : ℕ) → IsFirstRepeat (places.repeats entries) first second → FindsTwoPlaces entries (RepeatedPlace first second)
 places_repeat entries first second found =
-    (first, second, refl, record { repeated = found.repeated; least = found.least })
+    (first, second, refl, found)
 
-pub references_distinct : (entries : List Reference) → references.AreDistinct entries → FindsNothing (FindsTwoReferences entries)
+pub references_distinct : (entries : List Reference) → AreDistinct (references.repeats entries) → FindsNothing (FindsTwoReferences entries)
 references_distinct entries distinct error (first, second, is, found) =
     none_is_some (references.repeats entries second) first (distinct second) found.repeated
 
-pub references_repeat : (entries : List Reference) (first second : ℕ) → references.IsFirstRepeat entries first second → FindsTwoReferences entries (RepeatedReference first second)
+pub references_repeat : (entries : List Reference) (first second : ℕ) → IsFirstRepeat (references.repeats entries) first second → FindsTwoReferences entries (RepeatedReference first second)
 references_repeat entries first second found =
-    (first, second, refl, record { repeated = found.repeated; least = found.least })
+    (first, second, refl, found)
 
 -- one more item, which repeats none
 pub no_more_repeats : {A : Type 0} (find : List A → A → Option ℕ) (items : List A) (x : A) → ((index : ℕ) → repeats_by find items index ≡ None) → find items x ≡ None → (index : ℕ) → repeats_by find (items ++ x ∷ []) index ≡ None

@@ -1,9 +1,10 @@
 -- The tests over a whole job that is well formed, in their order; the first that finds something
 -- refuses the job. The tests are this project's own.
-use Rattle.std.specs.Prelude.{◌≡◌, ◌<◌, ◌⊎◌, ℕ, suc, false, List, [], ◌∷◌, take, Option, None, Some, nat_eq, option_and_then, option_map, slice_get, if◌then◌else◌}
+use Rattle.std.specs.Prelude.{◌≡◌, ◌<◌, ◌⊎◌, ℕ, suc, false, List, [], ◌∷◌, Option, None, Some, nat_eq, option_map, slice_get, if◌then◌else◌}
 use Rattle.std.specs.Cmp.Lexicographic.{pointwise}
 use Rattle.phrase_tree.specs.Term.{Term}
-use Rattle.evidence_types.specs.Weight.{oversize_at}
+use Rattle.phrase_tree.specs.Repeats.{IsFirstRepeat, repeats_by}
+use Rattle.evidence_types.specs.Measure.{oversize_at}
 use Rattle.session_model.specs.Session.{Session}
 use Rattle.bench_trait.specs.declared.artefacts.Artefact.{Artefact}
 use Rattle.bench_trait.specs.Artefacts.{artefact_index}
@@ -25,19 +26,11 @@ pub record IsLeast (Holds : ℕ → Type 0) (number : ℕ) : Type 0 where
   pub holds : Holds number
   pub least : (earlier : ℕ) → earlier < number → ¬ (Holds earlier)
 
--- of a list whose items may repeat earlier ones: the second is the least index that repeats one, and the
--- first is the least that it repeats
-pub record IsFirstRepeat (repeats : ℕ → Option ℕ) (first second : ℕ) : Type 0 where
-  pub repeated : repeats second ≡ Some first
-  pub least : (index : ℕ) → index < second → repeats index ≡ None
-
--- the least index that the item at an index repeats, where an item is looked for among earlier ones
-abbrev pub repeats_by : {A : Type 0} → (List A → A → Option ℕ) → List A → ℕ → Option ℕ
-repeats_by find list index = option_and_then (find (take index list)) (slice_get list index)
-
+-- where the first artefact of the same place and name stands
 abbrev pub same_artefact : List Artefact → Artefact → Option ℕ
 same_artefact artefacts artefact = artefact_index artefacts artefact.place artefact.name
 
+-- the least index that the artefact at an index repeats
 abbrev pub artefact_repeats : List Artefact → ℕ → Option ℕ
 artefact_repeats = repeats_by same_artefact
 
@@ -47,9 +40,11 @@ nonce_index [] bytes = None
 nonce_index (session ∷ rest) bytes =
     if pointwise nat_eq session.nonce bytes then Some 0 else option_map suc (nonce_index rest bytes)
 
+-- where the first session of the same nonce stands
 abbrev pub same_nonce : List WrittenSession → WrittenSession → Option ℕ
 same_nonce sessions session = nonce_index sessions session.nonce
 
+-- the least index that the session at an index repeats
 abbrev pub nonce_repeats : List WrittenSession → ℕ → Option ℕ
 nonce_repeats = repeats_by same_nonce
 

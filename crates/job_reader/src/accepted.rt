@@ -3,7 +3,7 @@ use byte_ports::Bytes;
 use place_check::{Checked, Places};
 use reference_book::References;
 
-/// A bundle to be appraised, and the session that it is of.
+/// A bundle to be appraised, and the session that it belongs to.
 #[derive(Debug, Drop)]
 pub struct BundleIn {
     pub session: u32,
@@ -11,7 +11,7 @@ pub struct BundleIn {
 }
 
 /// A job: its places, the artefacts that are measured, the sessions to be run, and what an appraisal
-/// expects and looks at. Of one that `job_of` gives, each session was checked against the places.
+/// expects and looks at. In a job that `job_of` gives, each session was checked against the places.
 #[derive(Drop)]
 pub struct Job {
     pub places: Places,

@@ -23,7 +23,7 @@ pub(crate) fn places_of(alloc: Global, entries: Vec<PlaceEntry>) -> Result<Place
     }
 }
 
-/// The references of a job, no two for the same.
+/// The references of a job, none of them twice.
 #[tactic(auto, using(crate::proofs::RepeatLemmas::references_distinct, crate::proofs::RepeatLemmas::references_repeat))]
 pub(crate) fn references_of(entries: Vec<Reference>) -> Result<References, JobError>
     requires { length entries.items < 2 ^ 32 }

@@ -24,7 +24,7 @@ fn check_session(places: &Places, index: u32, session: ReadSession) -> Result<Ch
     }
 }
 
-/// The sessions, where nothing keeps one from being run.
+/// The sessions, if nothing keeps any of them from being run.
 pub(crate) fn check_sessions(
     alloc: Global,
     places: &Places,

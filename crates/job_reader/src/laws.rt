@@ -7,8 +7,8 @@ ghost use Rattle.job_reader.specs.Faults.{first, job_faults};
 ghost use Rattle.job_reader.specs.Finding.{Finding, IsAccepted, IsFinding, JobView};
 ghost use Rattle.job_reader.specs.Form.{written_in};
 
-/// A law: a tree has no fault of form exactly where a job is written in it, and else the walk over it
-/// stops at the first of its faults. It does nothing.
+/// A law: a tree has no fault of form exactly when a job is written in it, and otherwise the walk over
+/// it stops at the first of its faults. It does nothing.
 pub fn walk_stops_at_the_first_fault(_appraise: bool)
     ensures { (tree : Data) → first (job_faults _appraise tree) ≡ result_err (written_in _appraise tree) }
 {}

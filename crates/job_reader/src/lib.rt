@@ -1,8 +1,8 @@
-//! Reads a job: one JSON text to places, artefacts, sessions, references and a bundle, or to its first
-//! refusal. `specs/Faults.antt` lists the faults of form of a tree, the first of which refuses the job;
-//! `specs/Form.antt` has the job that is written in a tree without one; `specs/Whole.antt` the seven
-//! tests over the whole job, in their order; `specs/Finding.antt` what the bytes of a job turn out to
-//! be. The format is this project's own.
+//! Reads a job: turns one JSON text into places, artefacts, sessions, references and a bundle, or into
+//! its first refusal. `specs/Faults.antt` lists the faults of form of a tree, the first of which
+//! refuses the job; `specs/Form.antt` has the job that is written in a tree without one;
+//! `specs/Whole.antt` the seven tests over the whole job, in their order; `specs/Finding.antt` what the
+//! bytes of a job turn out to be. The format is this project's own.
 #![tactic(auto)]
 
 mod accepted;

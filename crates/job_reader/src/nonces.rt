@@ -28,8 +28,8 @@ fn add_nonce(
     }
 }
 
-/// Whether the nonces of the sessions are all different. It takes time in the logarithm of their
-/// number for each.
+/// Whether the nonces of the sessions are all different. For each it takes time in the logarithm of
+/// their number.
 pub(crate) fn check_nonces(alloc: Global, sessions: &[SessionText<'_>]) -> Result<(), JobError>
     requires { length sessions.now < 2 ^ 32 }
     ensures { Passes (FindsTwoNonces (written_sessions sessions.now)) (λ done. Unit {0}) result }

@@ -39,7 +39,7 @@ fn read_session(
     }
 }
 
-/// The sessions with their phrases, where no text is refused.
+/// The sessions with their phrases, if no text is refused.
 pub(crate) fn read_all_sessions(
     alloc: Global,
     sessions: &[SessionText<'_>],

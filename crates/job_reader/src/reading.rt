@@ -22,12 +22,12 @@ fn job_in(alloc: Global, appraise: bool, tree: &Value) -> Result<Job, JobError>
     }
 }
 
-/// The job that these bytes are, or its first refusal, in the order of `JobError`: the bytes are no
-/// JSON text; the first fault of form, by a walk over the tree; or what the first test over the whole
-/// job finds that finds something. With `appraise` the job must have a bundle. Each session of the job
-/// was checked against its places. References are compared each with the earlier ones; all else takes
-/// time in the length of the bytes, and in the logarithm of the number of artefacts and sessions for
-/// each of them.
+/// The job that these bytes are, or its first refusal, in the order of `JobError`: the bytes are not a
+/// JSON text; the first fault of form, by a walk over the tree; or what is found by the first test over
+/// the whole job that finds something. With `appraise` the job must have a bundle. Each session of the
+/// job was checked against its places. Takes time in the length of the bytes, and in the logarithm of
+/// the number of artefacts, of sessions and of references for each of them; if there is no memory for
+/// an index of the references, each is compared with the earlier ones.
 pub fn job_of(alloc: Global, bytes: &[u8], appraise: bool) -> Result<Job, JobError>
     // What the bytes turn out to be.
     ensures finding { UnlessNoMemory result (IsFinding bytes.now appraise (finding_of result)) }

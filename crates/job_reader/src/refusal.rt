@@ -10,7 +10,7 @@ use std::alloc::AllocFailed;
 /// decides. Want of memory may come at any point.
 #[derive(Clone, Copy, Debug, PartialEq, Eq)]
 pub enum JobError {
-    /// The bytes are no JSON text.
+    /// The bytes are not a JSON text.
     NotJson,
     /// The first fault of form, where it stands and what it is.
     BadJob {
@@ -28,12 +28,12 @@ pub enum JobError {
         first: u32,
         second: u32,
     },
-    /// Two references for one place, kind with target, and measurement with arguments.
+    /// Two references of one place, kind with target, measurement with arguments, and answer.
     RepeatedReference {
         first: u32,
         second: u32,
     },
-    /// The least session whose root is no place.
+    /// The least session whose root is not a place.
     BadRoot {
         session: u32,
     },

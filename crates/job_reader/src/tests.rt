@@ -40,7 +40,7 @@ fn job_with(alloc: Global, phrase: &str) -> Result<String, AllocError> {
     )
 }
 
-/// Pieces of a phrase, each so many times, joined by arrows.
+/// Pieces of a phrase, each this many times, joined by arrows.
 fn chained(alloc: Global, parts: &[(&str, usize)]) -> Result<String, AllocError> {
     let mut text = String::new(alloc);
     for (part, count) in parts {
@@ -54,7 +54,7 @@ fn chained(alloc: Global, parts: &[(&str, usize)]) -> Result<String, AllocError>
     Ok(text)
 }
 
-/// What the text is refused for; none where it is accepted.
+/// What the text is refused for; none if it is accepted.
 fn refusal(alloc: Global, text: &str, appraise: bool) -> Option<JobError> {
     match job_of(alloc, text.as_bytes(), appraise) {
         Ok(_) => None,
@@ -109,8 +109,8 @@ fn a_phrase_is_refused_where_places_forbid_it(rt: HostRuntime) -> Result<(), Fai
 #[test]
 fn a_phrase_is_refused_past_its_limits(rt: HostRuntime) -> Result<(), Fail> {
     let rows: [(&[(&str, usize)], Option<JobError>); 8] = [
-        (&[("CPY", 1_024)], None),
-        (&[("CPY", 1_025)], bad_phrase(7_168, Kind::TooManyEvents)),
+        (&[("CPY", 2_048)], None),
+        (&[("CPY", 2_049)], bad_phrase(14_336, Kind::TooManyEvents)),
         (&[("USM a", 233), ("SIG", 592)], None),
         (
             &[("USM a", 233), ("SIG", 591), ("(CPY -<+ CPY)", 19)],
@@ -210,7 +210,8 @@ fn fault_text(alloc: Global, error: JobError) -> Result<String, Fail> {
     Ok(text)
 }
 
-/// In a job whose one part is of each of these texts in turn, the fault is to be the one beside it.
+/// In a job in which one part is each of these texts in turn, the fault must be the one beside the
+/// text.
 fn expect_faults(
     rt: &impl Abort,
     alloc: Global,
@@ -501,7 +502,7 @@ fn listed(alloc: Global, items: &[&str]) -> Result<String, AllocError> {
     Ok(text)
 }
 
-/// The job of these lists is to be refused for this, or accepted.
+/// The job of these lists must be refused for this, or accepted.
 fn expect(
     rt: &impl Abort,
     alloc: Global,
@@ -553,9 +554,9 @@ fn a_whole_job_is_refused_for_its_first_repeat(rt: HostRuntime) -> Result<(), Fa
     expect(&rt, alloc, &both, &list, &[NOWHERE], &[], artefacts)?;
     let references = Some(JobError::RepeatedReference {
         first: 1,
-        second: 2,
+        second: 3,
     });
-    let list = [OF_Q, OF_BANK, OF_BANK_AGAIN];
+    let list = [OF_Q, OF_BANK, OF_BANK_AGAIN, OF_BANK];
     expect(&rt, alloc, &both, &[], &[NOWHERE], &list, references)?;
     let nonces = Some(JobError::RepeatedNonce {
         first: 0,
@@ -619,7 +620,7 @@ fn an_accepted_job_holds_what_is_written(rt: HostRuntime) -> Result<(), Fail> {
     let places = listed(alloc, &[BANK, Q])?;
     let artefacts = listed(alloc, &[Q_SCAN, BANK_SCAN])?;
     let sessions = listed(alloc, &[ONE, TWO])?;
-    let references = listed(alloc, &[OF_Q, OF_BANK_AGAIN])?;
+    let references = listed(alloc, &[OF_Q, OF_BANK, OF_BANK_AGAIN])?;
     let parts = [
         places.as_str(),
         artefacts.as_str(),
@@ -637,14 +638,14 @@ fn an_accepted_job_holds_what_is_written(rt: HostRuntime) -> Result<(), Fail> {
     assert_eq!(rt; job.sessions.len(), 2);
     assert!(rt; job.sessions[0].root() == bank);
     assert_eq!(rt; job.sessions[1].nonce()[15], 2);
-    assert_eq!(rt; job.references.items().len(), 2);
+    assert_eq!(rt; job.references.items().len(), 3);
     let bundle = job.bundle.ok_or("a bundle")?;
     assert_eq!(rt; bundle.session, 1);
     assert_eq!(rt; bundle.bytes.items(), [171, 205].as_slice());
     Ok(())
 }
 
-/// A list of so many items, of which the one at the number is written by its last two bytes.
+/// A list of this many items; each has its number, in two bytes, between the front and the back.
 fn many(alloc: Global, front: &str, back: &str, count: u16) -> Result<String, AllocError> {
     let mut text = String::new(alloc);
     for number in 0..count {

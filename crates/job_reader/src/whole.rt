@@ -11,8 +11,8 @@ use crate::roots::check_roots;
 use crate::written::JobText;
 use std::alloc::Global;
 
-/// The job that is written, where no test over the whole of it finds anything; else what the first
-/// that finds something finds.
+/// The job that is written, if no test over the whole of it finds anything; otherwise what is found by
+/// the first test that finds something.
 pub(crate) fn accept(alloc: Global, text: JobText<'_>) -> Result<Job, JobError>
     requires { IsFew text }
     ensures { Accepts (written text.entry) result }

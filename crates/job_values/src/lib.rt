@@ -1,6 +1,6 @@
 //! Typed readers of one field of a JSON tree: each answers the field's value, or the first thing that
-//! is wrong with it. The words of the fields, and how the place of a fault is written, stand in
-//! `specs/Words.antt`; what each reader answers, in `specs/Reading.antt`.
+//! is wrong with it. `specs/Words.antt` has the words of the fields and the way in which the path of a
+//! fault is written, `specs/Reading.antt` what each reader answers.
 #![tactic(auto)]
 
 mod place;

@@ -33,13 +33,13 @@ impl Section {
 /// What is wrong with a field.
 #[derive(Clone, Copy, Debug, PartialEq, Eq)]
 pub enum FieldKind {
-    /// It is required, and not there.
+    /// It is required and is not there.
     Missing,
     /// It is of another kind of JSON value.
     WrongKind,
     /// It is not pairs of hexadecimal digits.
     BadHex,
-    /// It is no name.
+    /// It is not a name.
     BadName,
     /// It is a list, bytes or a number outside its bounds.
     OutOfRange,

@@ -21,8 +21,8 @@ fn named(text: &str) -> Result<Name, FieldKind>
     }
 }
 
-/// The name that a value is: WrongKind where it is no string, BadName where that is no name. Takes no
-/// memory.
+/// The name that a value is: WrongKind if it is not a string, BadName if the string is not a name.
+/// Takes no memory.
 pub fn name_of(value: &Value) -> Result<Name, FieldKind>
     ensures { result ≡ name_of (view value.now) }
 {
@@ -83,7 +83,7 @@ fn number_of(value: &Value, least: u32, most: u32) -> Result<u32, FieldKind>
     Ok(number as u32)
 }
 
-/// The number in a field, from `least` to `most`: Missing; WrongKind exactly where the value is no
+/// The number in a field, from `least` to `most`: Missing; WrongKind exactly when the value is not a
 /// whole number from 0 that fits 64 bits; OutOfRange. Takes no memory.
 pub fn number_at(object: &Value, field: Field, least: u32, most: u32) -> Result<u32, FieldKind>
     ensures { result ≡ number_at (view object.now) field least most }
@@ -214,8 +214,8 @@ fn has_other(members: &Map<String, Value>, fields: &[Field]) -> bool
     members.keys().any(|key| !is_known(fields, key.as_str()))
 }
 
-/// Whether an object has a key that is none of these fields'. False where the value is no object.
-/// Takes no memory.
+/// Whether an object has a key that belongs to none of these fields. False if the value is not an
+/// object. Takes no memory.
 pub fn unknown_in(object: &Value, fields: &[Field]) -> bool
     ensures { result ≡ unknown_in (view object.now) fields.now }
 {

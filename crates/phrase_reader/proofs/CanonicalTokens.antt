@@ -5,13 +5,14 @@ use Rattle.phrase_tree.specs.declared.measurement.Arg.TheVariants.{Word, Number}
 use Rattle.phrase_tree.specs.declared.measurement.Asp.{Asp}
 use Rattle.phrase_tree.specs.declared.phrase.Split.{Split}
 use Rattle.phrase_tree.specs.Name.{IsName}
-use Rattle.phrase_tree.specs.Term.{Term, cpy, sig, hsh, usm, kim, at, chain, seq, par, is_branch, is_chain}
-use Rattle.phrase_reader.specs.declared.token.Leaf.TheVariants.{Cpy, Sig, Hsh}
+use Rattle.phrase_tree.specs.Term.{Term, cpy, sig, hsh, nul, usm, kim, leaf, at, chain, seq, par, is_branch, is_chain}
+use Rattle.phrase_reader.specs.declared.token.Leaf.TheVariants.{Cpy, Sig, Hsh, Nul}
 use Rattle.phrase_reader.specs.declared.token.Op.{Op}
 use Rattle.phrase_reader.specs.declared.token.Token.{Token}
 use Rattle.phrase_reader.specs.declared.token.Token.TheVariants as tokens
 use Rattle.phrase_reader.specs.Grammar.{measurement_tokens, asp_tokens, name_token, IsBranch, IsChain, IsUnit, alone, branches, single, links, leaves, measures, asks, brackets}
-use Rattle.phrase_reader.specs.Canonical.{arg_text, args_text, asp_text, op_text, enclosed, canonical, IsArg, AreArgs, IsAsp, IsWritable}
+use Rattle.phrase_tree.specs.Text.{arg_text, args_text, asp_text, IsArg, AreArgs, IsAsp}
+use Rattle.phrase_reader.specs.Canonical.{op_text, enclosed, canonical, IsWritable}
 use Rattle.phrase_reader.proofs.WordTokens.{name_word, name_is_token, decimal_word, decimal_is_token}
 use Rattle.phrase_reader.proofs.Pieces.{Lexes, Stops, lexes_none, lexes_joined, lexes_blank, lexes_open_round, lexes_close_round, lexes_open_square, lexes_close_square, lexes_at, lexes_arrow, lexes_op, lexes_word}
 
@@ -23,11 +24,12 @@ abbrev pub op_of : Bool → Split → Op
 op_of parallel split = record { parallel = parallel; split = split }
 
 abbrev pub canonical_tokens : Term → List Token
-canonical_tokens cpy = tokens.Leaf Cpy ∷ []
-canonical_tokens sig = tokens.Leaf Sig ∷ []
-canonical_tokens hsh = tokens.Leaf Hsh ∷ []
-canonical_tokens (usm asp) = measurement_tokens None asp
-canonical_tokens (kim target asp) = measurement_tokens (Some target) asp
+canonical_tokens (leaf cpy) = tokens.Leaf Cpy ∷ []
+canonical_tokens (leaf sig) = tokens.Leaf Sig ∷ []
+canonical_tokens (leaf hsh) = tokens.Leaf Hsh ∷ []
+canonical_tokens (leaf nul) = tokens.Leaf Nul ∷ []
+canonical_tokens (leaf (usm asp)) = measurement_tokens None asp
+canonical_tokens (leaf (kim target asp)) = measurement_tokens (Some target) asp
 canonical_tokens (at place body) = tokens.At ∷ name_token place ∷ tokens.OpenSquare ∷ (canonical_tokens body ++ tokens.CloseSquare ∷ [])
 canonical_tokens (chain left right) =
     within (is_branch left) (canonical_tokens left) ++ tokens.Arrow ∷ within (is_branch right || is_chain right) (canonical_tokens right)
@@ -66,11 +68,12 @@ chain_spelled spelled left right c = record {
 }
 
 pub spelled : (phrase : Term) → Spelled (canonical_tokens phrase) phrase
-spelled cpy = unit_spelled (canonical_tokens cpy) cpy refl refl (leaves Cpy refl refl)
-spelled sig = unit_spelled (canonical_tokens sig) sig refl refl (leaves Sig refl refl)
-spelled hsh = unit_spelled (canonical_tokens hsh) hsh refl refl (leaves Hsh refl refl)
-spelled (usm asp) = unit_spelled (canonical_tokens (usm asp)) (usm asp) refl refl (measures None asp refl refl)
-spelled (kim target asp) = unit_spelled (canonical_tokens (kim target asp)) (kim target asp) refl refl (measures (Some target) asp refl refl)
+spelled (leaf cpy) = unit_spelled (canonical_tokens (leaf cpy)) (leaf cpy) refl refl (leaves Cpy refl refl)
+spelled (leaf sig) = unit_spelled (canonical_tokens (leaf sig)) (leaf sig) refl refl (leaves Sig refl refl)
+spelled (leaf hsh) = unit_spelled (canonical_tokens (leaf hsh)) (leaf hsh) refl refl (leaves Hsh refl refl)
+spelled (leaf nul) = unit_spelled (canonical_tokens (leaf nul)) (leaf nul) refl refl (leaves Nul refl refl)
+spelled (leaf (usm asp)) = unit_spelled (canonical_tokens (leaf (usm asp))) (leaf (usm asp)) refl refl (measures None asp refl refl)
+spelled (leaf (kim target asp)) = unit_spelled (canonical_tokens (leaf (kim target asp))) (leaf (kim target asp)) refl refl (measures (Some target) asp refl refl)
 spelled (at place body) =
     unit_spelled (canonical_tokens (at place body)) (at place body) refl refl (asks place (canonical_tokens body) body (spelled body).branch refl refl)
 spelled (chain left right) =
@@ -119,15 +122,16 @@ branch_lexes parallel split left right front back l r =
     refl
 
 pub phrase_lexes : (phrase : Term) → IsWritable phrase → Lexes (canonical phrase) (canonical_tokens phrase)
-phrase_lexes cpy h = lexes_word (codes "CPY") (tokens.Leaf Cpy) (record { first = 67; rest = codes "PY"; whole = refl; begins = refl; continues = refl }) refl
-phrase_lexes sig h = lexes_word (codes "SIG") (tokens.Leaf Sig) (record { first = 83; rest = codes "IG"; whole = refl; begins = refl; continues = refl }) refl
-phrase_lexes hsh h = lexes_word (codes "HSH") (tokens.Leaf Hsh) (record { first = 72; rest = codes "SH"; whole = refl; begins = refl; continues = refl }) refl
-phrase_lexes (usm asp) h =
+phrase_lexes (leaf cpy) h = lexes_word (codes "CPY") (tokens.Leaf Cpy) (record { first = 67; rest = codes "PY"; whole = refl; begins = refl; continues = refl }) refl
+phrase_lexes (leaf sig) h = lexes_word (codes "SIG") (tokens.Leaf Sig) (record { first = 83; rest = codes "IG"; whole = refl; begins = refl; continues = refl }) refl
+phrase_lexes (leaf hsh) h = lexes_word (codes "HSH") (tokens.Leaf Hsh) (record { first = 72; rest = codes "SH"; whole = refl; begins = refl; continues = refl }) refl
+phrase_lexes (leaf nul) h = lexes_word (codes "NUL") (tokens.Leaf Nul) (record { first = 78; rest = codes "UL"; whole = refl; begins = refl; continues = refl }) refl
+phrase_lexes (leaf (usm asp)) h =
     lexes_joined (codes "USM") (32 ∷ asp_text asp) (tokens.Usm ∷ []) (asp_tokens asp)
     (lexes_word (codes "USM") tokens.Usm (record { first = 85; rest = codes "SM"; whole = refl; begins = refl; continues = refl }) refl)
     (lexes_blank (asp_text asp) (asp_tokens asp) (asp_lexes asp h))
     refl
-phrase_lexes (kim target asp) h =
+phrase_lexes (leaf (kim target asp)) h =
     lexes_joined (codes "KIM") (32 ∷ (target ++ 32 ∷ asp_text asp)) (tokens.Kim ∷ []) (name_token target ∷ asp_tokens asp)
     (lexes_word (codes "KIM") tokens.Kim (record { first = 75; rest = codes "IM"; whole = refl; begins = refl; continues = refl }) refl)
     (lexes_blank (target ++ 32 ∷ asp_text asp) (name_token target ∷ asp_tokens asp)

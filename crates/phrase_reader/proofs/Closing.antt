@@ -1,7 +1,7 @@
 -- Any state can be closed: what was read is a front of a list that spells a phrase.
 use Rattle.std.proofs.Common.{◌≡◌, ◌++◌, ℕ, List, [], ◌∷◌, Some, None, refl, ap, ◌∙◌, sym, subst, append_assoc}
 use Rattle.std.proofs.lemmas.List.{append-nil}
-use Rattle.phrase_tree.specs.Term.{Term, cpy, kim, usm, at}
+use Rattle.phrase_tree.specs.Term.{Term, cpy, usm, kim, leaf, at}
 use Rattle.phrase_reader.specs.declared.token.Leaf.TheVariants.{Cpy}
 use Rattle.phrase_reader.specs.declared.token.Token.{Token}
 use Rattle.phrase_reader.specs.declared.token.Token.TheVariants as tokens
@@ -15,7 +15,7 @@ record Ended (last : List Token) : Type 0 where
   unit : Term
   ends : IsUnit (last ++ more) unit
 
-copied : IsBranch (tokens.Leaf Cpy ∷ []) cpy
+copied : IsBranch (tokens.Leaf Cpy ∷ []) (leaf cpy)
 copied = alone (single (leaves Cpy refl refl))
 
 a_name : List ℕ
@@ -24,32 +24,32 @@ a_name = 97 ∷ []
 end_unit : (stage : Stage) (last : List Token) → StageTokens stage last → Ended last
 end_unit unit_next last h = record {
   more = tokens.Leaf Cpy ∷ [];
-  unit = cpy;
+  unit = leaf cpy;
   ends = leaves Cpy (ap (λ l. l ++ tokens.Leaf Cpy ∷ []) h) refl;
 }
 end_unit place_next last h = record {
   more = name_token a_name ∷ tokens.OpenSquare ∷ tokens.Leaf Cpy ∷ tokens.CloseSquare ∷ [];
-  unit = at a_name cpy;
-  ends = asks a_name (tokens.Leaf Cpy ∷ []) cpy copied (ap (λ l. l ++ name_token a_name ∷ tokens.OpenSquare ∷ tokens.Leaf Cpy ∷ tokens.CloseSquare ∷ []) h) refl;
+  unit = at a_name (leaf cpy);
+  ends = asks a_name (tokens.Leaf Cpy ∷ []) (leaf cpy) copied (ap (λ l. l ++ name_token a_name ∷ tokens.OpenSquare ∷ tokens.Leaf Cpy ∷ tokens.CloseSquare ∷ []) h) refl;
 }
 end_unit (square_next place) last h = record {
   more = tokens.OpenSquare ∷ tokens.Leaf Cpy ∷ tokens.CloseSquare ∷ [];
-  unit = at place cpy;
-  ends = asks place (tokens.Leaf Cpy ∷ []) cpy copied (ap (λ l. l ++ tokens.OpenSquare ∷ tokens.Leaf Cpy ∷ tokens.CloseSquare ∷ []) h) refl;
+  unit = at place (leaf cpy);
+  ends = asks place (tokens.Leaf Cpy ∷ []) (leaf cpy) copied (ap (λ l. l ++ tokens.OpenSquare ∷ tokens.Leaf Cpy ∷ tokens.CloseSquare ∷ []) h) refl;
 }
 end_unit target_next last h = record {
   more = name_token a_name ∷ name_token a_name ∷ [];
-  unit = kim a_name (record { name = a_name; args = [] });
+  unit = leaf (kim a_name (record { name = a_name; args = [] }));
   ends = measures (Some a_name) (record { name = a_name; args = [] }) (ap (λ l. l ++ name_token a_name ∷ name_token a_name ∷ []) h) refl;
 }
 end_unit (service_next None) last h = record {
   more = name_token a_name ∷ [];
-  unit = usm (record { name = a_name; args = [] });
+  unit = leaf (usm (record { name = a_name; args = [] }));
   ends = measures None (record { name = a_name; args = [] }) (ap (λ l. l ++ name_token a_name ∷ []) h) refl;
 }
 end_unit (service_next (Some target)) last h = record {
   more = name_token a_name ∷ [];
-  unit = kim target (record { name = a_name; args = [] });
+  unit = leaf (kim target (record { name = a_name; args = [] }));
   ends = measures (Some target) (record { name = a_name; args = [] }) (ap (λ l. l ++ name_token a_name ∷ []) h) refl;
 }
 end_unit (measured target asp) last h = record {

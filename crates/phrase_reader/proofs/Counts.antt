@@ -6,7 +6,7 @@ use Rattle.phrase_reader.specs.declared.token.Token.{Token}
 use Rattle.phrase_reader.specs.declared.token.Token.TheVariants as tokens
 use Rattle.phrase_reader.specs.declared.state.Bracket.{Bracket}
 use Rattle.phrase_reader.specs.declared.state.Bracket.TheVariants.{Round, Square}
-use Rattle.phrase_reader.specs.Grammar.{leaf}
+use Rattle.phrase_reader.specs.Grammar.{bare}
 use Rattle.phrase_reader.specs.Refusal.{events_in, opens, closes, opened_in, closed_in, open_in}
 use Rattle.phrase_reader.specs.Machine.{Arm, Parts, Frame, Stage, State, unit_next, place_next, square_next, target_next, service_next, measured, ended, start, unit_of, branch_of, begun_from, inside, round_opened, square_opened, left_behind, round_left, square_left, round_closed, square_closed, linked, armed, branched, valued, with_stage, step, run}
 use Rattle.phrase_reader.proofs.Drives.{some_same, state_at}
@@ -80,7 +80,7 @@ value_height state None next h = cc
 value_height state (Some stage) next h = height_same (with_stage state stage) next h
 
 pub step_height : (state : State) (token : Token) (next : State) → step state token ≡ Some next → opens token + height state ≡ closes token + height next
-step_height s (tokens.Leaf which) next h = omega (arith, begun_height s.stage s.inner s.stack (ended (leaf which)) next h)
+step_height s (tokens.Leaf which) next h = omega (arith, begun_height s.stage s.inner s.stack (ended (bare which)) next h)
 step_height s tokens.Usm next h = omega (arith, begun_height s.stage s.inner s.stack (service_next None) next h)
 step_height s tokens.Kim next h = omega (arith, begun_height s.stage s.inner s.stack target_next next h)
 step_height s tokens.At next h = omega (arith, begun_height s.stage s.inner s.stack place_next next h)

@@ -8,7 +8,7 @@ use Rattle.phrase_reader.specs.declared.token.Op.{Op}
 use Rattle.phrase_reader.specs.declared.token.Token.{Token}
 use Rattle.phrase_reader.specs.declared.token.Token.TheVariants as tokens
 use Rattle.phrase_reader.specs.declared.state.Bracket.TheVariants.{Round, Square}
-use Rattle.phrase_reader.specs.Grammar.{leaf, measurement_tokens, name_token, joined, IsBranch, IsChain, IsUnit, alone, branches, single, links, leaves, measures, asks, brackets}
+use Rattle.phrase_reader.specs.Grammar.{bare, measurement_tokens, name_token, joined, IsBranch, IsChain, IsUnit, alone, branches, single, links, leaves, measures, asks, brackets}
 use Rattle.phrase_reader.specs.Machine.{Arm, Parts, Frame, Stage, State, unit_next, measured, ended, fresh, start, chain_with, whole_with, unit_of, branch_of, finished, step, run, armed, linked, round_closed, square_closed}
 
 bound : (o : Option State) (f g : State → Option State) (next : State) (target : Option State) → option_and_then f o ≡ Some next → ((s : State) → f s ≡ Some next → g s ≡ target) → option_and_then g o ≡ target
@@ -156,7 +156,7 @@ mutual
 
   pub unit_runs : {spelled : List Token} {phrase : Term} → IsUnit spelled phrase → (inner : Parts) (stack : List Frame) → UnitRun inner stack spelled phrase
   unit_runs {spelled} {phrase} (leaves which spells makes) inner stack = record {
-    stage = ended (leaf which);
+    stage = ended (bare which);
     runs = ap (run (state_at inner stack unit_next)) spells;
     ends = ap Some (sym makes);
   }

@@ -102,7 +102,7 @@ abbrev found_by : Bool → ℕ → ℕ → List ℕ → List Found
 found_by v offset byte rest =
     elim v [ true ↦ found (offset + 1) 0 rest | false ↦ found_with offset (front (byte ∷ rest)) (λ skip. found (offset + 1) skip rest) ]
 
-found_blank : (byte : ℕ) (rest : List ℕ) (offset : ℕ) → is_blank byte ≡ true → found offset 0 (byte ∷ rest) ≡ found (offset + 1) 0 rest
+pub found_blank : (byte : ℕ) (rest : List ℕ) (offset : ℕ) → is_blank byte ≡ true → found offset 0 (byte ∷ rest) ≡ found (offset + 1) 0 rest
 found_blank byte rest offset e = ap (λ v. found_by v offset byte rest) e
 
 pub found_token : (byte : ℕ) (rest : List ℕ) (offset : ℕ) → is_blank byte ≡ false → found offset 0 (byte ∷ rest) ≡ found_here offset (byte ∷ rest)

@@ -13,6 +13,7 @@ pub mod Readings
 pub mod Outcomes
 pub mod WordTokens
 pub mod Pieces
+pub mod Spellings
 pub mod CanonicalTokens
 pub mod Limits
 pub mod RoundTrip

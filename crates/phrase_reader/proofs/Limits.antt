@@ -2,9 +2,10 @@
 -- brackets are open than the phrase is deep.
 use Rattle.std.proofs.Common.{◌≡◌, ◌≤◌, ◌+◌, ◌-◌, ◌++◌, ◌||◌, ℕ, Bool, true, false, List, [], ◌∷◌, Option, Some, None, length, map, refl, sym, subst, append_assoc, arith, if◌then◌else◌}
 use Rattle.std.proofs.lemmas.List.{append-nil}
+use Rattle.phrase_tree.specs.declared.phrase.TheConstants.{BRACKETS}
 use Rattle.phrase_tree.specs.declared.measurement.Arg.{Arg}
 use Rattle.phrase_tree.specs.declared.measurement.Asp.{Asp}
-use Rattle.phrase_tree.specs.Term.{Term, cpy, sig, hsh, usm, kim, at, chain, seq, par, is_branch, is_chain}
+use Rattle.phrase_tree.specs.Term.{Term, cpy, sig, hsh, nul, usm, kim, leaf, at, chain, seq, par, is_branch, is_chain}
 use Rattle.phrase_tree.specs.Numbering.{depth}
 use Rattle.phrase_reader.specs.declared.token.Token.{Token}
 use Rattle.phrase_reader.specs.declared.token.Token.TheVariants as tokens
@@ -37,7 +38,7 @@ open_behind count _ = count
 abbrev pub Keeps : ℕ → ℕ → List Token → Type 0
 Keeps count room [] = Unit {0}
 Keeps count room (token ∷ rest) =
-    HasRoom room token × (open_behind count token ≤ 64) × Keeps (open_behind count token) (room_behind room token) rest
+    HasRoom room token × (open_behind count token ≤ BRACKETS) × Keeps (open_behind count token) (room_behind room token) rest
 
 -- more tokens keep the limits behind so many open brackets, whatever room there is
 record Follows (count : ℕ) (rest : List Token) : Type 0 where
@@ -46,19 +47,19 @@ record Follows (count : ℕ) (rest : List Token) : Type 0 where
 follows_at : (count other : ℕ) (rest : List Token) → other ≡ count → Follows count rest → Follows other rest
 follows_at count other rest e f = subst (λ n. Follows n rest) (sym e) f
 
-args_keep : (args : List Arg) (count room : ℕ) (rest : List Token) → count ≤ 64 → length args ≤ room → Follows count rest → Keeps count room (map tokens.Value args ++ rest)
+args_keep : (args : List Arg) (count room : ℕ) (rest : List Token) → count ≤ BRACKETS → length args ≤ room → Follows count rest → Keeps count room (map tokens.Value args ++ rest)
 args_keep [] count room rest low few f = f.keeps room
 args_keep (arg ∷ more) count room rest low few f =
     (omega (arith, few), low, args_keep more count (room - 1) rest low (omega (arith, few)) f)
 
-measurement_keeps : (target : Option (List ℕ)) (asp : Asp) (count room : ℕ) (rest : List Token) → length asp.args ≤ 4 → count ≤ 64 → Follows count rest → Keeps count room (measurement_tokens target asp ++ rest)
+measurement_keeps : (target : Option (List ℕ)) (asp : Asp) (count room : ℕ) (rest : List Token) → length asp.args ≤ 4 → count ≤ BRACKETS → Follows count rest → Keeps count room (measurement_tokens target asp ++ rest)
 measurement_keeps None asp count room rest few low f =
     (tt, low, (omega arith, low, args_keep asp.args count 4 rest low few f))
 measurement_keeps (Some target) asp count room rest few low f =
     (tt, low, (omega arith, low, (omega arith, low, args_keep asp.args count 4 rest low few f)))
 
 -- a part in the brackets that it wants
-within_keeps : (wanted : Bool) (inner : List Token) (count room : ℕ) (rest : List Token) → count + (if wanted then 1 else 0) ≤ 64 → Follows count rest → ((room : ℕ) (rest : List Token) → Follows (count + (if wanted then 1 else 0)) rest → Keeps (count + (if wanted then 1 else 0)) room (inner ++ rest)) → Keeps count room (within wanted inner ++ rest)
+within_keeps : (wanted : Bool) (inner : List Token) (count room : ℕ) (rest : List Token) → count + (if wanted then 1 else 0) ≤ BRACKETS → Follows count rest → ((room : ℕ) (rest : List Token) → Follows (count + (if wanted then 1 else 0)) rest → Keeps (count + (if wanted then 1 else 0)) room (inner ++ rest)) → Keeps count room (within wanted inner ++ rest)
 within_keeps true inner count room rest low f inside = (
   tt,
   low,
@@ -72,17 +73,18 @@ within_keeps false inner count room rest low f inside =
     same = omega arith
 
 -- two parts with a token between them that is no name and no decimal, and no bracket
-between_keeps : (left right : List Token) (token : Token) (count room : ℕ) (rest : List Token) → ((room : ℕ) → HasRoom room token) → open_behind count token ≡ count → count ≤ 64 → ((room : ℕ) (rest : List Token) → Follows count rest → Keeps count room (left ++ rest)) → ((room : ℕ) → Keeps count room (right ++ rest)) → Keeps count room ((left ++ token ∷ right) ++ rest)
+between_keeps : (left right : List Token) (token : Token) (count room : ℕ) (rest : List Token) → ((room : ℕ) → HasRoom room token) → open_behind count token ≡ count → count ≤ BRACKETS → ((room : ℕ) (rest : List Token) → Follows count rest → Keeps count room (left ++ rest)) → ((room : ℕ) → Keeps count room (right ++ rest)) → Keeps count room ((left ++ token ∷ right) ++ rest)
 between_keeps left right token count room rest fits same low l r =
     subst (λ ts. Keeps count room ts) (sym (append_assoc left (token ∷ right) rest))
-    (l room (token ∷ (right ++ rest)) (record { keeps = λ m. (fits m, subst (λ n. n ≤ 64) (sym same) low, subst (λ n. Keeps n (room_behind m token) (right ++ rest)) (sym same) (r (room_behind m token))) }))
+    (l room (token ∷ (right ++ rest)) (record { keeps = λ m. (fits m, subst (λ n. n ≤ BRACKETS) (sym same) low, subst (λ n. Keeps n (room_behind m token) (right ++ rest)) (sym same) (r (room_behind m token))) }))
 
-phrase_keeps : (phrase : Term) → IsWritable phrase → (count room : ℕ) (rest : List Token) → count + depth phrase ≤ 64 → Follows count rest → Keeps count room (canonical_tokens phrase ++ rest)
-phrase_keeps cpy h count room rest low f = (tt, omega (arith, low), f.keeps 0)
-phrase_keeps sig h count room rest low f = (tt, omega (arith, low), f.keeps 0)
-phrase_keeps hsh h count room rest low f = (tt, omega (arith, low), f.keeps 0)
-phrase_keeps (usm asp) h count room rest low f = measurement_keeps None asp count room rest h.few (omega (arith, low)) f
-phrase_keeps (kim target asp) h count room rest low f = measurement_keeps (Some target) asp count room rest h.1.few (omega (arith, low)) f
+phrase_keeps : (phrase : Term) → IsWritable phrase → (count room : ℕ) (rest : List Token) → count + depth phrase ≤ BRACKETS → Follows count rest → Keeps count room (canonical_tokens phrase ++ rest)
+phrase_keeps (leaf cpy) h count room rest low f = (tt, omega (arith, low), f.keeps 0)
+phrase_keeps (leaf sig) h count room rest low f = (tt, omega (arith, low), f.keeps 0)
+phrase_keeps (leaf hsh) h count room rest low f = (tt, omega (arith, low), f.keeps 0)
+phrase_keeps (leaf nul) h count room rest low f = (tt, omega (arith, low), f.keeps 0)
+phrase_keeps (leaf (usm asp)) h count room rest low f = measurement_keeps None asp count room rest h.few (omega (arith, low)) f
+phrase_keeps (leaf (kim target asp)) h count room rest low f = measurement_keeps (Some target) asp count room rest h.1.few (omega (arith, low)) f
 phrase_keeps (at place body) h count room rest low f =
     let inside = phrase_keeps body h.1 (count + 1) 0 (tokens.CloseSquare ∷ rest) (omega (arith, low))
     (record { keeps = λ m. (tt, omega (arith, low), (follows_at count (count + 1 - 1) rest (omega arith) f).keeps 0) }) in
@@ -114,7 +116,7 @@ phrase_keeps (par split left right) h count room rest low f =
     (λ m. within_keeps two (canonical_tokens right) count m rest (omega (arith, low)) f
     (λ n more k. phrase_keeps right h.1 (count + (if two then 1 else 0)) n more (omega (arith, low)) k))
 
-pub keeps : (phrase : Term) → IsWritable phrase → depth phrase ≤ 64 → Keeps 0 0 (canonical_tokens phrase)
+pub keeps : (phrase : Term) → IsWritable phrase → depth phrase ≤ BRACKETS → Keeps 0 0 (canonical_tokens phrase)
 keeps phrase h low =
     subst (λ l. Keeps 0 0 l) (append-nil (canonical_tokens phrase)) (phrase_keeps phrase h 0 0 [] (omega (arith, low)) (record { keeps = λ m. tt }))
 

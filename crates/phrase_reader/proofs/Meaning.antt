@@ -10,7 +10,7 @@ use Rattle.phrase_reader.specs.declared.token.Token.{Token}
 use Rattle.phrase_reader.specs.declared.token.Token.TheVariants as tokens
 use Rattle.phrase_reader.specs.declared.state.Bracket.{Bracket}
 use Rattle.phrase_reader.specs.declared.state.Bracket.TheVariants.{Round, Square}
-use Rattle.phrase_reader.specs.Grammar.{leaf, measurement, measurement_tokens, name_token, IsBranch, IsChain, IsUnit, alone, branches, single, links, leaves, measures, asks, brackets}
+use Rattle.phrase_reader.specs.Grammar.{bare, measurement, measurement_tokens, name_token, IsBranch, IsChain, IsUnit, alone, branches, single, links, leaves, measures, asks, brackets}
 use Rattle.phrase_reader.specs.Machine.{Arm, Parts, Frame, Stage, State, unit_next, place_next, square_next, target_next, service_next, measured, ended, fresh, start, chain_with, branch_with, whole_with, unit_of, finished_with, bracketed, begun_from, inside, round_opened, square_opened, left_behind, round_left, square_left, round_closed, square_closed, linked, armed, branched, with_name, named, valued, with_stage, step, run}
 use Rattle.phrase_reader.proofs.Drives.{some_same, state_at, parts_with}
 
@@ -319,7 +319,7 @@ op_means None link stack stage (Some unit) op next spelled m e h =
 -- what a state means is kept by its step
 pub step_means : (state : State) (token : Token) (next : State) (spelled : List Token) → StateMeans state spelled → step state token ≡ Some next → StateMeans next (spelled ++ token ∷ [])
 step_means s (tokens.Leaf which) next spelled m h =
-    begun_means s.stage s.inner s.stack (ended (leaf which)) (tokens.Leaf which) next spelled m (leaves which refl refl) h
+    begun_means s.stage s.inner s.stack (ended (bare which)) (tokens.Leaf which) next spelled m (leaves which refl refl) h
 step_means s tokens.Usm next spelled m h = begun_means s.stage s.inner s.stack (service_next None) tokens.Usm next spelled m refl h
 step_means s tokens.Kim next spelled m h = begun_means s.stage s.inner s.stack target_next tokens.Kim next spelled m refl h
 step_means s tokens.At next spelled m h = begun_means s.stage s.inner s.stack place_next tokens.At next spelled m refl h

@@ -2,6 +2,8 @@
 use Rattle.std.proofs.Common.{◌≡◌, ◌≤◌, ◌<◌, ◌+◌, ◌-◌, ◌++◌, ◌⊎◌, ℕ, zero, suc, Bool, true, false, List, [], ◌∷◌, Option, Some, None, length, nat_lt, refl, ap, ◌∙◌, sym, subst, append_assoc, arith, inl, inr}
 use Rattle.std.proofs.lemmas.Bool.{cond-true, cases_lt, lt-ltb}
 use Rattle.std.proofs.lemmas.List.{append-nil}
+use Rattle.phrase_tree.specs.declared.phrase.TheConstants.{EVENTS, BRACKETS}
+use Rattle.phrase_reader.specs.declared.reader.TheConstants.{TEXT_BYTES}
 use Rattle.phrase_tree.specs.Term.{Term}
 use Rattle.phrase_reader.specs.declared.refusal.Kind.{Kind}
 use Rattle.phrase_reader.specs.declared.refusal.Kind.TheVariants.{Expected, TooManyEvents, TooLong}
@@ -44,20 +46,20 @@ found_ends offset zero (byte ∷ rest) =
 -- what was read keeps the limits
 record Ready (before : List Token) (state : State) : Type 0 where
   reached : Reached before state
-  within : Within 64 0 before
-  few : events_in before ≤ 1024
+  within : Within BRACKETS 0 before
+  few : events_in before ≤ EVENTS
 
 -- what is found behind these tokens is refused, or completes them to a phrase
 abbrev Settles : List Token → List Found → Type 0
 Settles before all =
     ((place : ℕ) × (kind : Kind) × Refuses before all place kind) ⊎ ((phrase : Term) × IsBranch (before ++ tokens_of all) phrase × ((place : ℕ) (kind : Kind) → ¬ (Refuses before all place kind)))
 
-few_events : (limits : Option Kind) (events : ℕ) → limited limits events ≡ None → events ≤ 1024
+few_events : (limits : Option Kind) (events : ℕ) → limited limits events ≡ None → events ≤ EVENTS
 few_events (Some kind) events h = cc
-few_events None events h = by (cases_lt 1024 events)
+few_events None events h = by (cases_lt EVENTS events)
   where
-    by : (1024 < events) ⊎ (events ≤ 1024) → events ≤ 1024
-    by (inl more) = let e : Some TooManyEvents ≡ None = sym (cond-true (nat_lt 1024 events) (Some TooManyEvents) None (lt-ltb 1024 events more)) ∙ h in cc
+    by : (EVENTS < events) ⊎ (events ≤ EVENTS) → events ≤ EVENTS
+    by (inl more) = let e : Some TooManyEvents ≡ None = sym (cond-true (nat_lt EVENTS events) (Some TooManyEvents) None (lt-ltb EVENTS events more)) ∙ h in cc
     by (inr few) = few
 
 ready_next : (before : List Token) (state : State) (token : Token) (next : State) → Ready before state → step state token ≡ Some next → verdict state (events_in before) token ≡ None → Ready (before ++ token ∷ []) next
@@ -117,7 +119,7 @@ ready_start = record { reached = record { runs = refl }; within = within_none; f
 abbrev pub HasReading : List ℕ → Type 0
 HasReading text = ((phrase : Term) × IsRead text phrase) ⊎ ((place : ℕ) × (kind : Kind) × IsRefusal text place kind)
 
-short_reading : (text : List ℕ) → length text ≤ 65536 → Settles [] (found 0 0 text) → HasReading text
+short_reading : (text : List ℕ) → length text ≤ TEXT_BYTES → Settles [] (found 0 0 text) → HasReading text
 short_reading text short (inl refused) = inr (refused.0, refused.1, inr (short, refused.2))
 short_reading text short (inr whole) = inl (whole.0, record { accepted = none; spelled = whole.1 })
   where
@@ -126,8 +128,8 @@ short_reading text short (inr whole) = inl (whole.0, record { accepted = none; s
     none place kind (inr h) = whole.2 place kind h.1
 
 pub has_reading : (text : List ℕ) → HasReading text
-has_reading text = by (cases_lt 65536 (length text))
+has_reading text = by (cases_lt TEXT_BYTES (length text))
   where
-    by : (65536 < length text) ⊎ (length text ≤ 65536) → HasReading text
-    by (inl long) = inr (65536, TooLong, inl (long, refl, refl))
+    by : (TEXT_BYTES < length text) ⊎ (length text ≤ TEXT_BYTES) → HasReading text
+    by (inl long) = inr (TEXT_BYTES, TooLong, inl (long, refl, refl))
     by (inr short) = short_reading text short (settles (found 0 0 text) [] start (found_ends 0 0 text) ready_start)

@@ -1,6 +1,8 @@
 -- How far a text was read: what comes of the rest comes of the whole.
 use Rattle.std.proofs.Common.{◌≡◌, ◌≤◌, ◌<◌, ◌+◌, ◌++◌, ◌⊎◌, ◌↔◌, ℕ, List, [], ◌∷◌, Option, Some, None, Result, Ok, Err, length, drop, refl, ap, ◌∙◌, sym, subst, append_assoc, arith, inl, inr}
 use Rattle.std.proofs.lemmas.List.{append-nil}
+use Rattle.phrase_tree.specs.declared.phrase.TheConstants.{EVENTS, BRACKETS}
+use Rattle.phrase_reader.specs.declared.reader.TheConstants.{TEXT_BYTES}
 use Rattle.phrase_tree.specs.declared.phrase.Phrase.{Phrase}
 use Rattle.phrase_tree.specs.Term.{Term, term}
 use Rattle.phrase_reader.specs.declared.refusal.Kind.{Kind}
@@ -12,7 +14,8 @@ use Rattle.phrase_reader.specs.Tokens.{Found, token_at, refused_at, ends_at, fou
 use Rattle.phrase_reader.specs.Grammar.{IsBranch, IsWhole}
 use Rattle.phrase_reader.specs.Refusal.{token_events, events_in, opened_in, closed_in, Breaks, BreaksNone, Refuses, IsRefusal, IsRead}
 use Rattle.phrase_reader.specs.Machine.{State, start, finished, step, limit, limited, verdict}
-use Rattle.phrase_reader.specs.Reading.{AnswersWith, UnlessNoMemory, Reads, Accepts, Finishes}
+use Rattle.phrase_reader.specs.Answer.{AnswersWith, UnlessNoMemory}
+use Rattle.phrase_reader.specs.Reading.{Reads, Accepts, Finishes}
 use Rattle.phrase_reader.proofs.Drives.{some_same}
 use Rattle.phrase_reader.proofs.Counts.{events_joined, height, run_height}
 use Rattle.phrase_reader.proofs.Sized.{Within, spelled_sized}
@@ -42,14 +45,14 @@ front_of [] (first ∷ (second ∷ more)) back token e = absurd (front_short tok
 front_of (head ∷ before) (first ∷ front) back token e =
     front_on head first before front token (list_head head first (before ++ token ∷ []) (front ++ back) e) (front_of before front back token (list_tail head first (before ++ token ∷ []) (front ++ back) e))
 
-pub within_next : (before : List Token) (token : Token) (next : State) → Reached (before ++ token ∷ []) next → height next ≤ 64 → Within 64 0 before → Within 64 0 (before ++ token ∷ [])
+pub within_next : (before : List Token) (token : Token) (next : State) → Reached (before ++ token ∷ []) next → height next ≤ BRACKETS → Within BRACKETS 0 before → Within BRACKETS 0 (before ++ token ∷ [])
 within_next before token next r low w front back e = by (front_of before front back token e)
   where
-    by : (front ≡ before ++ token ∷ []) ⊎ ((rest : List Token) × (before ≡ front ++ rest)) → 0 + opened_in front ≤ 64 + closed_in front
+    by : (front ≡ before ++ token ∷ []) ⊎ ((rest : List Token) × (before ≡ front ++ rest)) → 0 + opened_in front ≤ BRACKETS + closed_in front
     by (inl whole) = omega (arith, low, ap opened_in whole, ap closed_in whole, run_height (before ++ token ∷ []) start next r.runs)
     by (inr more) = w front more.0 more.1
 
-pub within_height : (before : List Token) (state : State) → Reached before state → Within 64 0 before → height state ≤ 64
+pub within_height : (before : List Token) (state : State) → Reached before state → Within BRACKETS 0 before → height state ≤ BRACKETS
 within_height before state r w =
     omega (arith, w before [] (sym (append-nil before)), run_height before start state r.runs)
 
@@ -58,17 +61,17 @@ pub record Progress (text : List ℕ) (offset : ℕ) (state : State) (events : �
   pub before : List Token
   pub reached : Reached before state
   pub counted : events ≡ events_in before
-  pub few : events ≤ 1024
-  pub within : Within 64 0 before
+  pub few : events ≤ EVENTS
+  pub within : Within BRACKETS 0 before
   pub spelled : before ++ tokens_of (found offset 0 (drop offset text)) ≡ tokens_of (found 0 0 text)
   pub onward : (place : ℕ) (kind : Kind) → Refuses before (found offset 0 (drop offset text)) place kind → Refuses [] (found 0 0 text) place kind
   pub back : (place : ℕ) (kind : Kind) → Refuses [] (found 0 0 text) place kind → Refuses before (found offset 0 (drop offset text)) place kind
 
-nothing_open : (front back : List Token) → [] ≡ front ++ back → 0 + opened_in front ≤ 64 + closed_in front
+nothing_open : (front back : List Token) → [] ≡ front ++ back → 0 + opened_in front ≤ BRACKETS + closed_in front
 nothing_open [] back e = omega arith
 nothing_open (first ∷ rest) back e = cc
 
-pub within_none : Within 64 0 []
+pub within_none : Within BRACKETS 0 []
 within_none front back e = nothing_open front back e
 
 pub progress_start : (text : List ℕ) (state : State) → state ≡ start → Progress text 0 state 0
@@ -101,7 +104,7 @@ passed : (before : List Token) (token : Token) (place : ℕ) (rest : List Found)
 passed before token place rest q k none (inl b) = absurd (none q k b)
 passed before token place rest q k none (inr more) = more.1
 
-pub progress_next : (text : List ℕ) (offset : ℕ) (state : State) (events : ℕ) (token : Token) (place onward : ℕ) (next : State) (counted : ℕ) → Progress text offset state events → found offset 0 (drop offset text) ≡ token_at place token ∷ found onward 0 (drop onward text) → step state token ≡ Some next → verdict state events token ≡ None → counted ≡ events + token_events token → counted ≤ 1024 → Progress text onward next counted
+pub progress_next : (text : List ℕ) (offset : ℕ) (state : State) (events : ℕ) (token : Token) (place onward : ℕ) (next : State) (counted : ℕ) → Progress text offset state events → found offset 0 (drop offset text) ≡ token_at place token ∷ found onward 0 (drop onward text) → step state token ≡ Some next → verdict state events token ≡ None → counted ≡ events + token_events token → counted ≤ EVENTS → Progress text onward next counted
 progress_next text offset state events token place onward next counted p f h v c few =
     let before = p.before in
     let r = reached_next before state token next p.reached h in
@@ -184,15 +187,15 @@ progress_rejects text offset state events token place rest (Refused other kind) 
     )
 progress_rejects text offset state events token place rest NoMemory p f h = tt
 
-pub too_long_found : (text : List ℕ) → 65536 < length text → (phrase : Term) → (⊥ → IsRead text phrase) × (IsRead text phrase → ⊥)
-too_long_found text long phrase = (λ b. absurd b, λ r. r.accepted 65536 TooLong (inl (long, refl, refl)))
+pub too_long_found : (text : List ℕ) → TEXT_BYTES < length text → (phrase : Term) → (⊥ → IsRead text phrase) × (IsRead text phrase → ⊥)
+too_long_found text long phrase = (λ b. absurd b, λ r. r.accepted TEXT_BYTES TooLong (inl (long, refl, refl)))
 
 -- a text of few bytes has no refusal but that of its tokens
-few_refused : (text : List ℕ) (place : ℕ) (kind : Kind) → length text ≤ 65536 → IsRefusal text place kind → Refuses [] (found 0 0 text) place kind
+few_refused : (text : List ℕ) (place : ℕ) (kind : Kind) → length text ≤ TEXT_BYTES → IsRefusal text place kind → Refuses [] (found 0 0 text) place kind
 few_refused text place kind few (inl long) = absurd (omega (arith, long.0))
 few_refused text place kind few (inr more) = more.1
 
-pub read_found : (text : List ℕ) (r : Result Phrase ReadError) → length text ≤ 65536 → Reads r (found 0 0 text) → (phrase : Term) → UnlessNoMemory r (AnswersWith r phrase ↔ IsRead text phrase)
+pub read_found : (text : List ℕ) (r : Result Phrase ReadError) → length text ≤ TEXT_BYTES → Reads r (found 0 0 text) → (phrase : Term) → UnlessNoMemory r (AnswersWith r phrase ↔ IsRead text phrase)
 read_found text (Ok phrase) few h spelled = (
   λ e. record {
     accepted = λ q k g. h.1 q k (few_refused text q k few g);
@@ -213,7 +216,7 @@ same_refusal place q kind k e = (cc, cc)
 refusal_same : (place q : ℕ) (kind k : Kind) → (place ≡ q) × (kind ≡ k) → refusal place kind ≡ refusal q k
 refusal_same place q kind k e = cc
 
-pub read_refused : (text : List ℕ) (r : Result Phrase ReadError) → length text ≤ 65536 → Reads r (found 0 0 text) → (place : ℕ) (kind : Kind) → UnlessNoMemory r ((r ≡ Err (Refused place kind)) ↔ IsRefusal text place kind)
+pub read_refused : (text : List ℕ) (r : Result Phrase ReadError) → length text ≤ TEXT_BYTES → Reads r (found 0 0 text) → (place : ℕ) (kind : Kind) → UnlessNoMemory r ((r ≡ Err (Refused place kind)) ↔ IsRefusal text place kind)
 read_refused text (Ok phrase) few h q k =
     (λ e. cc, λ g. absurd (h.1 q k (few_refused text q k few g)))
 read_refused text (Err (Refused place kind)) few h q k = (

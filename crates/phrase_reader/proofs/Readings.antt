@@ -1,5 +1,6 @@
 -- A text has one reading at most: one phrase, or one refusal.
 use Rattle.std.proofs.Common.{◌≡◌, ◌≤◌, ◌<◌, ◌++◌, ℕ, List, [], ◌∷◌, refl, ap, ◌∙◌, sym, arith, inl, inr}
+use Rattle.phrase_tree.specs.declared.phrase.TheConstants.{EVENTS, BRACKETS}
 use Rattle.phrase_tree.specs.Term.{Term}
 use Rattle.phrase_reader.specs.declared.refusal.Kind.{Kind}
 use Rattle.phrase_reader.specs.declared.refusal.Kind.TheVariants.{Char, Word, Expected, Trailing, TooManyArgs, NumberTooLarge, TooDeep, TooLong, TooManyEvents}
@@ -24,12 +25,12 @@ pub phrase_one : (text : List ℕ) (phrase other : Term) → IsRead text phrase 
 phrase_one text phrase other r s = branch_one (tokens_of (found 0 0 text)) phrase other r.spelled s.spelled
 
 -- a token that opens no bracket opens no 65th
-not_deeper : (before : List Token) (token : Token) → opens token ≡ 0 → open_in before ≤ 64 → 64 < open_in (before ++ token ∷ []) → ⊥
+not_deeper : (before : List Token) (token : Token) → opens token ≡ 0 → open_in before ≤ BRACKETS → BRACKETS < open_in (before ++ token ∷ []) → ⊥
 not_deeper before token o few more =
     omega (arith, o, few, more, opened_joined before (token ∷ []), closed_joined before (token ∷ []))
 
 -- a token that counts no events passes no count
-not_more : (before : List Token) (token : Token) → token_events token ≡ 0 → events_in before ≤ 1024 → 1024 < events_in (before ++ token ∷ []) → ⊥
+not_more : (before : List Token) (token : Token) → token_events token ≡ 0 → events_in before ≤ EVENTS → EVENTS < events_in (before ++ token ∷ []) → ⊥
 not_more before token o few more = omega (arith, o, few, more, events_joined before (token ∷ []))
 
 -- a token that opens a bracket counts no events

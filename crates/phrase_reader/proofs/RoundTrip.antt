@@ -1,6 +1,8 @@
 -- The canonical text of a phrase is read as the phrase.
 use Rattle.std.proofs.Common.{◌≡◌, ◌≤◌, ◌+◌, ◌++◌, ℕ, List, [], ◌∷◌, length, refl, ap, ◌∙◌, sym, subst, append_assoc, arith, inl, inr}
 use Rattle.std.proofs.lemmas.List.{append-nil}
+use Rattle.phrase_tree.specs.declared.phrase.TheConstants.{EVENTS}
+use Rattle.phrase_reader.specs.declared.reader.TheConstants.{TEXT_BYTES}
 use Rattle.phrase_tree.specs.Term.{Term}
 use Rattle.phrase_tree.specs.Numbering.{IsSized}
 use Rattle.phrase_reader.specs.declared.refusal.Kind.{Kind}
@@ -21,7 +23,7 @@ record Kept (before left : List Token) (phrase : Term) : Type 0 where
   count : ℕ
   room : ℕ
   whole : IsBranch (before ++ left) phrase
-  few : events_in (before ++ left) ≤ 1024
+  few : events_in (before ++ left) ≤ EVENTS
   keeps_on : Keeps count room left
   counted : opened_in before ≤ count + closed_in before
   spared : room ≡ room_in 0 before
@@ -52,7 +54,7 @@ kept_next before rest token phrase k = record {
   count = open_behind k.count token;
   room = room_behind k.room token;
   whole = subst (λ l. IsBranch l phrase) (sym (append_assoc before (token ∷ []) rest)) k.whole;
-  few = subst (λ l. events_in l ≤ 1024) (sym (append_assoc before (token ∷ []) rest)) k.few;
+  few = subst (λ l. events_in l ≤ EVENTS) (sym (append_assoc before (token ∷ []) rest)) k.few;
   keeps_on = k.keeps_on.2;
   counted = omega (arith, k.counted, opened_behind k.count token, opened_joined before (token ∷ []), closed_joined before (token ∷ []));
   spared = ap (λ n. room_behind n token) k.spared ∙ sym (room_joined 0 before (token ∷ []));
@@ -100,12 +102,12 @@ kept_whole phrase sized written = record {
   spared = refl;
 }
 
-canonical_accepted : (phrase : Term) (place : ℕ) (kind : Kind) → IsSized phrase → IsWritable phrase → length (canonical phrase) ≤ 65536 → IsRefusal (canonical phrase) place kind → ⊥
+canonical_accepted : (phrase : Term) (place : ℕ) (kind : Kind) → IsSized phrase → IsWritable phrase → length (canonical phrase) ≤ TEXT_BYTES → IsRefusal (canonical phrase) place kind → ⊥
 canonical_accepted phrase place kind sized written short (inl long) = omega (arith, short, long.0)
 canonical_accepted phrase place kind sized written short (inr h) =
     unrefused (found 0 0 (canonical phrase)) [] (canonical_tokens phrase) phrase place kind (canonical_found phrase written) (kept_whole phrase sized written) h.1
 
-pub round_trip : (phrase : Term) → IsSized phrase → IsWritable phrase → length (canonical phrase) ≤ 65536 → IsRead (canonical phrase) phrase
+pub round_trip : (phrase : Term) → IsSized phrase → IsWritable phrase → length (canonical phrase) ≤ TEXT_BYTES → IsRead (canonical phrase) phrase
 round_trip phrase sized written short = record {
   accepted = λ place kind. canonical_accepted phrase place kind sized written short;
   spelled =

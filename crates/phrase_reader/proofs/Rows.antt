@@ -2,10 +2,11 @@
 -- they spell, and the canonical texts of some phrases. An edit of the definitions is refused here.
 use Rattle.std.proofs.Common.{◌≡◌, ◌≤◌, ◌↔◌, ℕ, List, [], ◌∷◌, length, refl, codes, true, false, arith, inr}
 use Rattle.std.specs.Fmt.{digits}
+use Rattle.phrase_reader.specs.declared.reader.TheConstants.{TEXT_BYTES}
 use Rattle.phrase_tree.specs.declared.measurement.Arg.TheVariants.{Word, Number}
 use Rattle.phrase_tree.specs.declared.measurement.Asp.{Asp}
 use Rattle.phrase_tree.specs.declared.phrase.Split.{Split}
-use Rattle.phrase_tree.specs.Term.{cpy, sig, hsh, kim, at, chain, seq, par}
+use Rattle.phrase_tree.specs.Term.{cpy, sig, hsh, kim, leaf, at, chain, seq, par}
 use Rattle.phrase_reader.specs.declared.refusal.Kind.{Kind}
 use Rattle.phrase_reader.specs.declared.refusal.Kind.TheVariants as kinds
 use Rattle.phrase_reader.specs.declared.token.Leaf.TheVariants.{Cpy, Sig}
@@ -47,7 +48,7 @@ an_arrow_and_an_op : found 0 0 (codes "CPY->SIG -~+") ≡ token_at 0 (tokens.Lea
 an_arrow_and_an_op = refl
 
 -- one refusal, and no other, is that of the text
-refused_row : (text : List ℕ) (place : ℕ) (kind : Kind) → length text ≤ 65536 → ((q : ℕ) (k : Kind) → Refuses [] (found 0 0 text) q k ↔ ((place ≡ q) × (kind ≡ k))) → IsRefusal text place kind
+refused_row : (text : List ℕ) (place : ℕ) (kind : Kind) → length text ≤ TEXT_BYTES → ((q : ℕ) (k : Kind) → Refuses [] (found 0 0 text) q k ↔ ((place ≡ q) × (kind ≡ k))) → IsRefusal text place kind
 refused_row text place kind few h = inr (few, (h place kind).1 (refl, refl))
 
 nothing_is_refused : IsRefusal [] 0 kinds.Expected
@@ -60,7 +61,7 @@ a_small_keyword_is_refused =
     (progress_stops (codes "usm a") 0 start 0 (tokens.Value (Word (codes "usm"))) 0 (found 3 0 (codes " a")) kinds.Expected (progress_start (codes "usm a") start refl) refl refl)
 
 abbrev copied : State
-copied = record { inner = fresh; stack = []; stage = ended cpy }
+copied = record { inner = fresh; stack = []; stage = ended (leaf cpy) }
 
 two_copies_are_refused : IsRefusal (codes "CPY CPY") 4 kinds.Trailing
 two_copies_are_refused =
@@ -84,25 +85,25 @@ to_left = record { left = true; right = false }
 abbrev service : Asp
 service = record { name = codes "a"; args = Word (codes "x") ∷ Number 1 ∷ [] }
 
-a_measurement_prints : canonical (kim (codes "q") service) ≡ codes "KIM q a x 1"
+a_measurement_prints : canonical (leaf (kim (codes "q") service)) ≡ codes "KIM q a x 1"
 unfolding digits
 a_measurement_prints = refl
 
-a_chain_on_the_left_prints : canonical (chain (chain cpy sig) cpy) ≡ codes "CPY -> SIG -> CPY"
+a_chain_on_the_left_prints : canonical (chain (chain (leaf cpy) (leaf sig)) (leaf cpy)) ≡ codes "CPY -> SIG -> CPY"
 a_chain_on_the_left_prints = refl
 
-a_chain_on_the_right_prints : canonical (chain cpy (chain cpy cpy)) ≡ codes "CPY -> (CPY -> CPY)"
+a_chain_on_the_right_prints : canonical (chain (leaf cpy) (chain (leaf cpy) (leaf cpy))) ≡ codes "CPY -> (CPY -> CPY)"
 a_chain_on_the_right_prints = refl
 
-a_request_prints : canonical (at (codes "q") cpy) ≡ codes "@q [CPY]"
+a_request_prints : canonical (at (codes "q") (leaf cpy)) ≡ codes "@q [CPY]"
 a_request_prints = refl
 
-a_branch_in_a_request_prints : canonical (chain (at (codes "q") (seq to_left cpy sig)) hsh) ≡ codes "@q [CPY +<- SIG] -> HSH"
+a_branch_in_a_request_prints : canonical (chain (at (codes "q") (seq to_left (leaf cpy) (leaf sig))) (leaf hsh)) ≡ codes "@q [CPY +<- SIG] -> HSH"
 a_branch_in_a_request_prints = refl
 
-a_branch_as_an_arm_prints : canonical (par to_left (seq to_left cpy sig) (chain hsh cpy)) ≡ codes "(CPY +<- SIG) +~- HSH -> CPY"
+a_branch_as_an_arm_prints : canonical (par to_left (seq to_left (leaf cpy) (leaf sig)) (chain (leaf hsh) (leaf cpy))) ≡ codes "(CPY +<- SIG) +~- HSH -> CPY"
 a_branch_as_an_arm_prints = refl
 
-a_chain_is_read : IsRead (codes "CPY -> (CPY -> CPY)") (chain cpy (chain cpy cpy))
+a_chain_is_read : IsRead (codes "CPY -> (CPY -> CPY)") (chain (leaf cpy) (chain (leaf cpy) (leaf cpy)))
 a_chain_is_read =
-    round_trip (chain cpy (chain cpy cpy)) (record { events = omega arith; nesting = omega arith }) (tt, (tt, tt)) (omega arith)
+    round_trip (chain (leaf cpy) (chain (leaf cpy) (leaf cpy))) (record { events = omega arith; nesting = omega arith }) (tt, (tt, tt)) (omega arith)

@@ -1,15 +1,16 @@
 -- A phrase has as many events as its tokens count, and no more open brackets than they have.
 use Rattle.std.proofs.Common.{◌≡◌, ◌≤◌, ◌+◌, ◌++◌, ◌||◌, ℕ, Bool, true, false, max, List, [], ◌∷◌, Option, Some, None, refl, ap, ◌∙◌, sym, append_assoc, arith, map, if◌then◌else◌}
+use Rattle.phrase_tree.specs.declared.phrase.TheConstants.{EVENTS, BRACKETS}
 use Rattle.phrase_tree.specs.declared.measurement.Arg.{Arg}
 use Rattle.phrase_tree.specs.declared.measurement.Asp.{Asp}
 use Rattle.phrase_tree.specs.Term.{Term, seq, par, is_branch, is_chain}
 use Rattle.phrase_tree.specs.Numbering.{event_count, depth, IsSized}
 use Rattle.phrase_reader.specs.declared.token.Leaf.{Leaf}
-use Rattle.phrase_reader.specs.declared.token.Leaf.TheVariants.{Cpy, Sig, Hsh}
+use Rattle.phrase_reader.specs.declared.token.Leaf.TheVariants.{Cpy, Sig, Hsh, Nul}
 use Rattle.phrase_reader.specs.declared.token.Op.{Op}
 use Rattle.phrase_reader.specs.declared.token.Token.{Token}
 use Rattle.phrase_reader.specs.declared.token.Token.TheVariants as tokens
-use Rattle.phrase_reader.specs.Grammar.{leaf, measurement, measurement_tokens, name_token, joined, IsBranch, IsChain, IsUnit, alone, branches, single, links, leaves, measures, asks, brackets}
+use Rattle.phrase_reader.specs.Grammar.{bare, measurement, measurement_tokens, name_token, joined, IsBranch, IsChain, IsUnit, alone, branches, single, links, leaves, measures, asks, brackets}
 use Rattle.phrase_reader.specs.Refusal.{token_events, events_in, opened_in, closed_in}
 use Rattle.phrase_reader.proofs.Counts.{events_joined, opened_joined, closed_joined}
 
@@ -25,10 +26,11 @@ pub record Counts (spelled : List Token) (events : ℕ) : Type 0 where
   pub counted : events_in spelled ≡ events
   pub balanced : opened_in spelled ≡ closed_in spelled
 
-leaf_counts : (which : Leaf) → Counts (tokens.Leaf which ∷ []) (event_count (leaf which))
+leaf_counts : (which : Leaf) → Counts (tokens.Leaf which ∷ []) (event_count (bare which))
 leaf_counts Cpy = record { counted = refl; balanced = refl }
 leaf_counts Sig = record { counted = refl; balanced = refl }
 leaf_counts Hsh = record { counted = refl; balanced = refl }
+leaf_counts Nul = record { counted = refl; balanced = refl }
 
 measurement_counts : (target : Option (List ℕ)) (asp : Asp) → Counts (measurement_tokens target asp) (event_count (measurement target asp))
 measurement_counts None asp =
@@ -90,7 +92,7 @@ mutual
 
   pub unit_counts : {spelled : List Token} {phrase : Term} → IsUnit spelled phrase → Counts spelled (event_count phrase)
   unit_counts {spelled} {phrase} (leaves which spells makes) =
-      counts_at spelled (tokens.Leaf which ∷ []) (event_count (leaf which)) (event_count phrase) spells (ap event_count makes) (leaf_counts which)
+      counts_at spelled (tokens.Leaf which ∷ []) (event_count (bare which)) (event_count phrase) spells (ap event_count makes) (leaf_counts which)
   unit_counts {spelled} {phrase} (measures target asp spells makes) =
       counts_at spelled (measurement_tokens target asp) (event_count (measurement target asp)) (event_count phrase) spells (ap event_count makes) (measurement_counts target asp)
   unit_counts {spelled} {phrase} (asks place within body branch spells makes) =
@@ -141,10 +143,11 @@ or_more true c = omega arith
 or_more false true = omega arith
 or_more false false = omega arith
 
-leaf_depth : (which : Leaf) → as_right (leaf which) ≡ 0
+leaf_depth : (which : Leaf) → as_right (bare which) ≡ 0
 leaf_depth Cpy = refl
 leaf_depth Sig = refl
 leaf_depth Hsh = refl
+leaf_depth Nul = refl
 
 measurement_depth : (target : Option (List ℕ)) (asp : Asp) → as_right (measurement target asp) ≡ 0
 measurement_depth None asp = refl
@@ -191,8 +194,8 @@ mutual
       omega (arith, branch_depth branch limit (base + 1) (within_round limit base spelled within spells w), one_at_most (is_branch phrase || is_chain phrase))
 
 -- what few tokens with few open brackets spell is sized
-pub spelled_sized : (spelled : List Token) (phrase : Term) → IsBranch spelled phrase → events_in spelled ≤ 1024 → Within 64 0 spelled → IsSized phrase
+pub spelled_sized : (spelled : List Token) (phrase : Term) → IsBranch spelled phrase → events_in spelled ≤ EVENTS → Within BRACKETS 0 spelled → IsSized phrase
 spelled_sized spelled phrase b few w = record {
   events = omega (arith, (branch_counts b).counted);
-  nesting = omega (arith, branch_depth b 64 0 w);
+  nesting = omega (arith, branch_depth b BRACKETS 0 w);
 }

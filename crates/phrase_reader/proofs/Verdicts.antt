@@ -1,6 +1,7 @@
 -- The reader's verdict on a token is the rule that the token breaks.
 use Rattle.std.proofs.Common.{◌≡◌, ◌≤◌, ◌<◌, ◌+◌, ◌++◌, ◌⊎◌, ℕ, Bool, true, false, cond, List, [], ◌∷◌, Option, Some, None, length, nat_le, nat_lt, refl, ap, ◌∙◌, sym, subst, append_assoc, arith, option_and_then, inl, inr}
 use Rattle.std.proofs.lemmas.Bool.{cond-true, le-leb, leb-true, lt-ltb, ltb-true, cases_lt}
+use Rattle.phrase_tree.specs.declared.phrase.TheConstants.{EVENTS, BRACKETS}
 use Rattle.phrase_tree.specs.declared.measurement.Asp.{Asp}
 use Rattle.phrase_tree.specs.Term.{Term}
 use Rattle.phrase_reader.specs.declared.refusal.Kind.{Kind}
@@ -108,11 +109,11 @@ args_limit before state token r fifth =
     ap (limit state) fifth.1
     ∙ (ap too_many stage ∙ cond-true (nat_le 4 (length asp.args)) (Some TooManyArgs) None (le-leb 4 (length asp.args) fifth.5))
 
-pub deep_limit : (state : State) (token : Token) (next : State) → step state token ≡ Some next → height state ≤ 64 → 64 < height next → limit state token ≡ Some TooDeep
+pub deep_limit : (state : State) (token : Token) (next : State) → step state token ≡ Some next → height state ≤ BRACKETS → BRACKETS < height next → limit state token ≡ Some TooDeep
 deep_limit s tokens.OpenRound next h few more =
-    cond-true (nat_le 64 (length s.stack)) (Some TooDeep) None (le-leb 64 (length s.stack) (omega (arith, step_height s tokens.OpenRound next h)))
+    cond-true (nat_le BRACKETS (length s.stack)) (Some TooDeep) None (le-leb BRACKETS (length s.stack) (omega (arith, step_height s tokens.OpenRound next h)))
 deep_limit s tokens.OpenSquare next h few more =
-    cond-true (nat_le 64 (length s.stack)) (Some TooDeep) None (le-leb 64 (length s.stack) (omega (arith, step_height s tokens.OpenSquare next h)))
+    cond-true (nat_le BRACKETS (length s.stack)) (Some TooDeep) None (le-leb BRACKETS (length s.stack) (omega (arith, step_height s tokens.OpenSquare next h)))
 deep_limit s (tokens.Leaf which) next h few more = absurd (omega (arith, step_height s (tokens.Leaf which) next h))
 deep_limit s tokens.Usm next h few more = absurd (omega (arith, step_height s tokens.Usm next h))
 deep_limit s tokens.Kim next h few more = absurd (omega (arith, step_height s tokens.Kim next h))
@@ -163,7 +164,7 @@ rule_verdict before state token TooManyEvents r b =
     let f = fits before state token r b.0 in
     verdict_fits state (events_in before) token f.0 f.1
     ∙ (ap (λ l. limited l (events_in before + token_events token)) (events_limit state token (omega (arith, b.1, b.2, events_joined before (token ∷ []))))
-    ∙ cond-true (nat_lt 1024 (events_in before + token_events token)) (Some TooManyEvents) None (lt-ltb 1024 (events_in before + token_events token) (omega (arith, b.2, events_joined before (token ∷ [])))))
+    ∙ cond-true (nat_lt EVENTS (events_in before + token_events token)) (Some TooManyEvents) None (lt-ltb EVENTS (events_in before + token_events token) (omega (arith, b.2, events_joined before (token ∷ [])))))
 rule_verdict before state token Char r b = absurd b
 rule_verdict before state token Word r b = absurd b
 rule_verdict before state token NumberTooLarge r b = absurd b
@@ -188,17 +189,17 @@ many_rule (ended unit) kind last h read = cc
 rule_at : (before : List Token) (token : Token) (rule kind : Kind) → rule ≡ kind → BreaksRule before token rule → BreaksRule before token kind
 rule_at before token rule kind e b = subst (λ k. BreaksRule before token k) e b
 
-opened_rule : (before : List Token) (state : State) (token : Token) (next : State) (kind : Kind) → Reached before state → step state token ≡ Some next → 1 + height state ≡ height next → height state ≤ 64 → too_deep state.stack ≡ Some kind → BreaksRule before token kind
+opened_rule : (before : List Token) (state : State) (token : Token) (next : State) (kind : Kind) → Reached before state → step state token ≡ Some next → 1 + height state ≡ height next → height state ≤ BRACKETS → too_deep state.stack ≡ Some kind → BreaksRule before token kind
 opened_rule before state token next kind r h up low e =
-    let c = chosen (nat_le 64 (length state.stack)) TooDeep kind e in
+    let c = chosen (nat_le BRACKETS (length state.stack)) TooDeep kind e in
     let after = reached_next before state token next r h in
     rule_at before token TooDeep kind c.1 (
       viable before state token next r h,
       omega (arith, low, open_height before state r.runs),
-      omega (arith, up, leb-true 64 (length state.stack) c.0, open_height (before ++ token ∷ []) next after.runs),
+      omega (arith, up, leb-true BRACKETS (length state.stack) c.0, open_height (before ++ token ∷ []) next after.runs),
     )
 
-limit_rule : (before : List Token) (state : State) (token : Token) (next : State) (kind : Kind) → Reached before state → step state token ≡ Some next → height state ≤ 64 → limit state token ≡ Some kind → BreaksRule before token kind
+limit_rule : (before : List Token) (state : State) (token : Token) (next : State) (kind : Kind) → Reached before state → step state token ≡ Some next → height state ≤ BRACKETS → limit state token ≡ Some kind → BreaksRule before token kind
 limit_rule before s (tokens.Value value) next kind r h low e =
     let m = reached_means before s r in
     let f = many_rule s.stage kind m.last e m.stage_read in
@@ -219,13 +220,13 @@ limit_rule before s tokens.CloseSquare next kind r h low e = cc
 limit_rule before s tokens.Arrow next kind r h low e = cc
 limit_rule before s (tokens.Op op) next kind r h low e = cc
 
-limits_rule : (before : List Token) (state : State) (token : Token) (next : State) (kind : Kind) (o : Option Kind) → Reached before state → step state token ≡ Some next → height state ≤ 64 → events_in before ≤ 1024 → limit state token ≡ o → limited o (events_in before + token_events token) ≡ Some kind → BreaksRule before token kind
+limits_rule : (before : List Token) (state : State) (token : Token) (next : State) (kind : Kind) (o : Option Kind) → Reached before state → step state token ≡ Some next → height state ≤ BRACKETS → events_in before ≤ EVENTS → limit state token ≡ o → limited o (events_in before + token_events token) ≡ Some kind → BreaksRule before token kind
 limits_rule before state token next kind None r h low few l e =
-    let c = chosen (nat_lt 1024 (events_in before + token_events token)) TooManyEvents kind e in
+    let c = chosen (nat_lt EVENTS (events_in before + token_events token)) TooManyEvents kind e in
     rule_at before token TooManyEvents kind c.1 (
       viable before state token next r h,
       few,
-      omega (arith, ltb-true 1024 (events_in before + token_events token) c.0, events_joined before (token ∷ [])),
+      omega (arith, ltb-true EVENTS (events_in before + token_events token) c.0, events_joined before (token ∷ [])),
     )
 limits_rule before state token next kind (Some rule) r h low few l e =
     limit_rule before state token next kind r h low (l ∙ e)
@@ -237,7 +238,7 @@ misfit_rule before state token kind (Some phrase) r h f e =
     rule_at before token Trailing kind e ((phrase, phrase_whole before state phrase r f), not_viable before state token r h)
 
 -- the verdict is a rule that the token breaks
-pub verdict_rule : (before : List Token) (state : State) (token : Token) (kind : Kind) → Reached before state → height state ≤ 64 → events_in before ≤ 1024 → verdict state (events_in before) token ≡ Some kind → BreaksRule before token kind
+pub verdict_rule : (before : List Token) (state : State) (token : Token) (kind : Kind) → Reached before state → height state ≤ BRACKETS → events_in before ≤ EVENTS → verdict state (events_in before) token ≡ Some kind → BreaksRule before token kind
 verdict_rule before state token kind r low few v = by (step state token) refl
   where
     by : (o : Option State) → step state token ≡ o → BreaksRule before token kind
@@ -249,9 +250,9 @@ verdict_rule before state token kind r low few v = by (step state token) refl
         (sym (verdict_fits state (events_in before) token next h) ∙ v)
 
 -- a token with no verdict leads to a state with few open brackets
-pub next_low : (state : State) (token : Token) (next : State) → step state token ≡ Some next → limit state token ≡ None → height state ≤ 64 → height next ≤ 64
-next_low state token next h l low = by (cases_lt 64 (height next))
+pub next_low : (state : State) (token : Token) (next : State) → step state token ≡ Some next → limit state token ≡ None → height state ≤ BRACKETS → height next ≤ BRACKETS
+next_low state token next h l low = by (cases_lt BRACKETS (height next))
   where
-    by : (64 < height next) ⊎ (height next ≤ 64) → height next ≤ 64
+    by : (BRACKETS < height next) ⊎ (height next ≤ BRACKETS) → height next ≤ BRACKETS
     by (inl more) = let e : None ≡ Some TooDeep = sym l ∙ deep_limit state token next h low more in cc
     by (inr few) = few

@@ -33,8 +33,9 @@ no_keyword_is first rest n =
     cond-false (bytes_eq (first ∷ rest) (codes "CPY")) _ _ (other_word first 67 rest (codes "PY") (n.apart 67 (omega arith) (omega arith)))
     ∙ (cond-false (bytes_eq (first ∷ rest) (codes "SIG")) _ _ (other_word first 83 rest (codes "IG") (n.apart 83 (omega arith) (omega arith)))
     ∙ (cond-false (bytes_eq (first ∷ rest) (codes "HSH")) _ _ (other_word first 72 rest (codes "SH") (n.apart 72 (omega arith) (omega arith)))
+    ∙ (cond-false (bytes_eq (first ∷ rest) (codes "NUL")) _ _ (other_word first 78 rest (codes "UL") (n.apart 78 (omega arith) (omega arith)))
     ∙ (cond-false (bytes_eq (first ∷ rest) (codes "USM")) _ _ (other_word first 85 rest (codes "SM") (n.apart 85 (omega arith) (omega arith)))
-    ∙ cond-false (bytes_eq (first ∷ rest) (codes "KIM")) _ _ (other_word first 75 rest (codes "IM") (n.apart 75 (omega arith) (omega arith))))))
+    ∙ cond-false (bytes_eq (first ∷ rest) (codes "KIM")) _ _ (other_word first 75 rest (codes "IM") (n.apart 75 (omega arith) (omega arith)))))))
 
 -- a word of letters, digits and underscores that begins with a letter or a digit
 pub record IsWord (word : List ℕ) : Type 0 where
@@ -96,7 +97,7 @@ record AreDigits (number : ℕ) (digits : List ℕ) : Type 0 where
 digit_byte : (n : ℕ) → n < 10 → is_digit (48 + n) ≡ true
 digit_byte n h = grind (arith, nat_tests)
 
-digit_begins : (byte : ℕ) → is_digit byte ≡ true → begins_word byte ≡ true
+pub digit_begins : (byte : ℕ) → is_digit byte ≡ true → begins_word byte ≡ true
 digit_begins byte h = grind (arith, nat_tests)
 
 digit_continues : (byte : ℕ) → is_digit byte ≡ true → continues_word byte ≡ true
@@ -108,7 +109,7 @@ digit_no_capital byte h = record { apart = λ capital low high e. grind (arith, 
 digit_no_letter : (byte : ℕ) → is_digit byte ≡ true → is_small_letter byte ≡ false
 digit_no_letter byte h = grind (arith, nat_tests)
 
-digits_continue : (digits : List ℕ) → list_all is_digit digits ≡ true → list_all continues_word digits ≡ true
+pub digits_continue : (digits : List ℕ) → list_all is_digit digits ≡ true → list_all continues_word digits ≡ true
 digits_continue [] h = refl
 digits_continue (byte ∷ rest) h =
     let p = and_parts (is_digit byte) (list_all is_digit rest) h in
@@ -166,7 +167,7 @@ decimal_token_is word number v h =
     cond-true (nat_le (decimal_from 0 word) 4294967295) _ _ (le-leb (decimal_from 0 word) 4294967295 (omega (arith, v)))
     ∙ ap (λ n. Ok (tokens.Value (Number n))) v
 
-digits_are_token : (first : ℕ) (rest : List ℕ) (number : ℕ) → number < 2 ^ 32 → list_all is_digit (first ∷ rest) ≡ true → is_decimal (first ∷ rest) ≡ true → decimal_from 0 (first ∷ rest) ≡ number → word_token (first ∷ rest) ≡ Ok (tokens.Value (Number number))
+pub digits_are_token : (first : ℕ) (rest : List ℕ) (number : ℕ) → number < 2 ^ 32 → list_all is_digit (first ∷ rest) ≡ true → is_decimal (first ∷ rest) ≡ true → decimal_from 0 (first ∷ rest) ≡ number → word_token (first ∷ rest) ≡ Ok (tokens.Value (Number number))
 digits_are_token first rest number h ascii plain value =
     let digit = (and_parts (is_digit first) (list_all is_digit rest) ascii).0 in
     no_keyword_is first rest (digit_no_capital first digit)

@@ -3,23 +3,24 @@
 use Rattle.std.specs.Prelude.{◌≡◌, ◌++◌, ℕ, List, [], ◌∷◌, Option, Some, None, map, if◌then◌else◌}
 use Rattle.phrase_tree.specs.declared.measurement.Arg.TheVariants.{Word}
 use Rattle.phrase_tree.specs.declared.measurement.Asp.{Asp}
-use Rattle.phrase_tree.specs.Term.{Term, cpy, sig, hsh, usm, kim, at, chain, seq, par}
+use Rattle.phrase_tree.specs.Term.{Term, cpy, sig, hsh, nul, usm, kim, leaf, at, chain, seq, par}
 use Rattle.phrase_reader.specs.declared.token.Leaf.{Leaf}
-use Rattle.phrase_reader.specs.declared.token.Leaf.TheVariants.{Cpy, Sig, Hsh}
+use Rattle.phrase_reader.specs.declared.token.Leaf.TheVariants.{Cpy, Sig, Hsh, Nul}
 use Rattle.phrase_reader.specs.declared.token.Op.{Op}
 use Rattle.phrase_reader.specs.declared.token.Token.{Token}
 use Rattle.phrase_reader.specs.declared.token.Token.TheVariants as tokens
 
--- CPY, SIG and HSH
-abbrev pub leaf : Leaf → Term
-leaf Cpy = cpy
-leaf Sig = sig
-leaf Hsh = hsh
+-- CPY, SIG, HSH and NUL
+abbrev pub bare : Leaf → Term
+bare Cpy = leaf cpy
+bare Sig = leaf sig
+bare Hsh = leaf hsh
+bare Nul = leaf nul
 
 -- USM, its name and its arguments; KIM has its target before the name
 abbrev pub measurement : Option (List ℕ) → Asp → Term
-measurement None asp = usm asp
-measurement (Some target) asp = kim target asp
+measurement None asp = leaf (usm asp)
+measurement (Some target) asp = leaf (kim target asp)
 
 abbrev pub name_token : List ℕ → Token
 name_token name = tokens.Value (Word name)
@@ -48,7 +49,7 @@ mutual
 
   -- a leaf, a measurement, a request with its square brackets, or round brackets, which make no node
   pub data IsUnit : List Token → Term → Type 0 where
-    leaves : {spelled : List Token} {phrase : Term} (which : Leaf) → spelled ≡ tokens.Leaf which ∷ [] → phrase ≡ leaf which → IsUnit spelled phrase
+    leaves : {spelled : List Token} {phrase : Term} (which : Leaf) → spelled ≡ tokens.Leaf which ∷ [] → phrase ≡ bare which → IsUnit spelled phrase
     measures : {spelled : List Token} {phrase : Term} (target : Option (List ℕ)) (asp : Asp) → spelled ≡ measurement_tokens target asp → phrase ≡ measurement target asp → IsUnit spelled phrase
     asks : {spelled : List Token} {phrase : Term} (place : List ℕ) (inner : List Token) (body : Term) → IsBranch inner body → spelled ≡ tokens.At ∷ name_token place ∷ tokens.OpenSquare ∷ (inner ++ tokens.CloseSquare ∷ []) → phrase ≡ at place body → IsUnit spelled phrase
     brackets : {spelled : List Token} {phrase : Term} (inner : List Token) → IsBranch inner phrase → spelled ≡ tokens.OpenRound ∷ (inner ++ tokens.CloseRound ∷ []) → IsUnit spelled phrase

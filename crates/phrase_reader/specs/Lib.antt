@@ -1,7 +1,9 @@
 pub mod Tokens
 pub mod Grammar
+pub mod Canonical
+pub mod Spelling
 pub mod Refusal
+pub mod Answer
 pub mod Machine
 pub mod Reading
-pub mod Canonical
 pub mod Printing

@@ -1,6 +1,7 @@
 -- How a reader goes from token to token. Nothing public names this: it is what the reader's own functions
 -- promise one another, and the laws in proofs/ lead from it to the grammar.
 use Rattle.std.specs.Prelude.{◌≡◌, ◌+◌, ◌++◌, ℕ, Bool, true, false, List, [], ◌∷◌, Option, Some, None, Result, Ok, Err, is_some, length, nat_le, nat_lt, option_map, option_and_then, if◌then◌else◌}
+use Rattle.phrase_tree.specs.declared.phrase.TheConstants.{EVENTS, BRACKETS}
 use Rattle.phrase_tree.specs.declared.measurement.Arg.{Arg}
 use Rattle.phrase_tree.specs.declared.measurement.Arg.TheVariants.{Word, Number}
 use Rattle.phrase_tree.specs.declared.measurement.Asp.{Asp}
@@ -20,7 +21,7 @@ use Rattle.phrase_reader.specs.declared.state.Stage.TheVariants as stages
 use Rattle.phrase_reader.specs.declared.state.State as coded
 use Rattle.phrase_reader.specs.declared.state.Stop.{Stop}
 use Rattle.phrase_reader.specs.declared.state.Stop.TheVariants.{Unfit, Limit, Memory}
-use Rattle.phrase_reader.specs.Grammar.{leaf, measurement, joined}
+use Rattle.phrase_reader.specs.Grammar.{bare, measurement, joined}
 use Rattle.phrase_reader.specs.Refusal.{token_events}
 
 -- the left arm of a branch whose op was read
@@ -169,7 +170,7 @@ with_stage state stage = record { inner = state.inner; stack = state.stack; stag
 
 -- the state behind one more token, if it fits
 abbrev pub step : State → Token → Option State
-step state (tokens.Leaf which) = begun state (ended (leaf which))
+step state (tokens.Leaf which) = begun state (ended (bare which))
 step state tokens.Usm = begun state (service_next None)
 step state tokens.Kim = begun state target_next
 step state tokens.At = begun state place_next
@@ -194,7 +195,7 @@ abbrev pub too_many : Stage → Option Kind
 too_many stage = if args_full stage then Some kinds.TooManyArgs else None
 
 abbrev pub too_deep : List Frame → Option Kind
-too_deep stack = if nat_le 64 (length stack) then Some kinds.TooDeep else None
+too_deep stack = if nat_le BRACKETS (length stack) then Some kinds.TooDeep else None
 
 -- the limit that a token breaks which fits, the count of events aside
 abbrev pub limit : State → Token → Option Kind
@@ -205,7 +206,7 @@ limit state _ = None
 
 abbrev pub limited : Option Kind → ℕ → Option Kind
 limited (Some kind) events = Some kind
-limited None events = if nat_lt 1024 events then Some kinds.TooManyEvents else None
+limited None events = if nat_lt EVENTS events then Some kinds.TooManyEvents else None
 
 abbrev pub unfit : Option Term → Kind
 unfit (Some phrase) = kinds.Trailing

@@ -1,5 +1,6 @@
--- What reading a text answers, and what the reader's functions promise one another.
+-- What the reader's functions promise one another.
 use Rattle.std.specs.Prelude.{◌≡◌, ◌≤◌, ◌<◌, ◌+◌, ◌↔◌, ℕ, true, false, List, [], ◌∷◌, Some, None, Result, Ok, Err, length, drop, nat_lt}
+use Rattle.phrase_tree.specs.declared.phrase.TheConstants.{EVENTS}
 use Rattle.phrase_tree.specs.declared.phrase.Phrase.{Phrase}
 use Rattle.phrase_tree.specs.Term.{Term, term}
 use Rattle.phrase_tree.specs.Numbering.{IsSized}
@@ -17,17 +18,6 @@ use Rattle.phrase_reader.specs.Tokens.{Found, token_at, refused_at, ends_at, fou
 use Rattle.phrase_reader.specs.Grammar.{IsBranch}
 use Rattle.phrase_reader.specs.Refusal.{Refuses, token_events}
 use Rattle.phrase_reader.specs.Machine.{State, state_of, step, verdict, finished, unfit}
-
--- the reader answered with this phrase
-abbrev pub AnswersWith : Result Phrase ReadError → Term → Type 0
-AnswersWith (Ok phrase) spelled = term phrase ≡ spelled
-AnswersWith (Err error) spelled = ⊥
-
--- the fact, unless there was no memory
-abbrev pub UnlessNoMemory : Result Phrase ReadError → Type 0 → Type 0
-UnlessNoMemory (Ok phrase) fact = fact
-UnlessNoMemory (Err (Refused place kind)) fact = fact
-UnlessNoMemory (Err NoMemory) fact = Unit {0}
 
 -- the reader's answer to all that is found in a text of few bytes
 abbrev pub Reads : Result Phrase ReadError → List Found → Type 0
@@ -49,7 +39,7 @@ Finds text offset (pieces.End place) =
 -- the reader took a token, or answered with the rule that it breaks
 abbrev pub Accepts : State → ℕ → Token → ℕ → Result Reader ReadError → Type 0
 Accepts state events token place (Ok next) =
-    (step state token ≡ Some (state_of next.state)) × (verdict state events token ≡ None) × (next.events ≡ events + token_events token) × (next.events ≤ 1024) × (next.unfit ≡ unfit (finished (state_of next.state)))
+    (step state token ≡ Some (state_of next.state)) × (verdict state events token ≡ None) × (next.events ≡ events + token_events token) × (next.events ≤ EVENTS) × (next.unfit ≡ unfit (finished (state_of next.state)))
 Accepts state events token place (Err (Refused offset kind)) =
     (offset ≡ place) × (verdict state events token ≡ Some kind)
 Accepts state events token place (Err NoMemory) = Unit {0}
@@ -57,9 +47,9 @@ Accepts state events token place (Err NoMemory) = Unit {0}
 -- the same for a token that breaks no other rule than that on the count of events
 abbrev pub AcceptsCount : State → ℕ → ℕ → Result Reader ReadError → Type 0
 AcceptsCount state events place (Ok next) =
-    (state_of next.state ≡ state) × (next.events ≡ events) × (nat_lt 1024 events ≡ false) × (next.unfit ≡ unfit (finished (state_of next.state)))
+    (state_of next.state ≡ state) × (next.events ≡ events) × (nat_lt EVENTS events ≡ false) × (next.unfit ≡ unfit (finished (state_of next.state)))
 AcceptsCount state events place (Err (Refused offset kind)) =
-    (offset ≡ place) × (kind ≡ kinds.TooManyEvents) × (nat_lt 1024 events ≡ true)
+    (offset ≡ place) × (kind ≡ kinds.TooManyEvents) × (nat_lt EVENTS events ≡ true)
 AcceptsCount state events place (Err NoMemory) = Unit {0}
 
 -- the reader's answer at the end

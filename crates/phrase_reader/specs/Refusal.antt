@@ -1,5 +1,7 @@
 -- Which texts are refused, where and why, and which phrase any other text spells.
 use Rattle.std.specs.Prelude.{◌≡◌, ◌≤◌, ◌<◌, ◌+◌, ◌-◌, ◌++◌, ◌⊎◌, ℕ, List, [], ◌∷◌, Option, length}
+use Rattle.phrase_tree.specs.declared.phrase.TheConstants.{EVENTS, BRACKETS}
+use Rattle.phrase_reader.specs.declared.reader.TheConstants.{TEXT_BYTES}
 use Rattle.phrase_tree.specs.declared.measurement.Arg.{Arg}
 use Rattle.phrase_tree.specs.declared.measurement.Asp.{Asp}
 use Rattle.phrase_tree.specs.Term.{Term}
@@ -10,7 +12,7 @@ use Rattle.phrase_reader.specs.declared.token.Token.TheVariants as tokens
 use Rattle.phrase_reader.specs.Tokens.{Found, token_at, refused_at, ends_at, found, tokens_of}
 use Rattle.phrase_reader.specs.Grammar.{IsBranch, IsWhole, IsViable, measurement_tokens}
 
--- CPY, SIG, HSH, USM and KIM count one event each, a request and an op two
+-- CPY, SIG, HSH, NUL, USM and KIM count one event each, a request and an op two
 abbrev pub token_events : Token → ℕ
 token_events (tokens.Leaf leaf) = 1
 token_events tokens.Usm = 1
@@ -56,9 +58,9 @@ BreaksRule before token Trailing = IsWhole before × ¬ (IsViable (before ++ tok
 BreaksRule before token Expected = ¬ (IsWhole before) × ¬ (IsViable (before ++ token ∷ []))
 BreaksRule before token TooManyArgs = IsViable (before ++ token ∷ []) × IsFifthArgument before token
 BreaksRule before token TooDeep =
-    IsViable (before ++ token ∷ []) × (open_in before ≤ 64) × (64 < open_in (before ++ token ∷ []))
+    IsViable (before ++ token ∷ []) × (open_in before ≤ BRACKETS) × (BRACKETS < open_in (before ++ token ∷ []))
 BreaksRule before token TooManyEvents =
-    IsViable (before ++ token ∷ []) × (events_in before ≤ 1024) × (1024 < events_in (before ++ token ∷ []))
+    IsViable (before ++ token ∷ []) × (events_in before ≤ EVENTS) × (EVENTS < events_in (before ++ token ∷ []))
 BreaksRule before token _ = ⊥
 
 -- what was found breaks a rule behind the tokens before it; the end continues no phrase, so it breaks
@@ -85,7 +87,7 @@ Refuses before (next ∷ rest) place kind =
 -- the refusal of a text: one of more than 65,536 bytes has no other than TooLong
 abbrev pub IsRefusal : List ℕ → ℕ → Kind → Type 0
 IsRefusal text place kind =
-    ((65536 < length text) × (place ≡ 65536) × (kind ≡ TooLong)) ⊎ ((length text ≤ 65536) × Refuses [] (found 0 0 text) place kind)
+    ((TEXT_BYTES < length text) × (place ≡ TEXT_BYTES) × (kind ≡ TooLong)) ⊎ ((length text ≤ TEXT_BYTES) × Refuses [] (found 0 0 text) place kind)
 
 -- the text has no refusal, and its tokens spell the phrase
 pub record IsRead (text : List ℕ) (phrase : Term) : Type 0 where

@@ -6,7 +6,7 @@ use Rattle.phrase_tree.specs.Name.{is_small_letter, is_name}
 use Rattle.phrase_tree.specs.declared.measurement.Arg.TheVariants.{Word, Number}
 use Rattle.phrase_reader.specs.declared.refusal.Kind.{Kind}
 use Rattle.phrase_reader.specs.declared.refusal.Kind.TheVariants as kinds
-use Rattle.phrase_reader.specs.declared.token.Leaf.TheVariants.{Cpy, Sig, Hsh}
+use Rattle.phrase_reader.specs.declared.token.Leaf.TheVariants.{Cpy, Sig, Hsh, Nul}
 use Rattle.phrase_reader.specs.declared.token.Token.{Token}
 use Rattle.phrase_reader.specs.declared.token.Token.TheVariants as tokens
 use Rattle.phrase_reader.specs.declared.lexeme.Lexeme.{Lexeme}
@@ -45,17 +45,18 @@ decimal_token word =
     then Ok (tokens.Value (Number (decimal_from 0 word)))
     else Err kinds.NumberTooLarge
 
--- the token that a whole word is: one of the five keywords, a name or a decimal
+-- the token that a whole word is: one of the six keywords, a name or a decimal
 abbrev pub word_token : List ℕ → Result Token Kind
 word_token word =
     if bytes_eq word (codes "CPY") then Ok (tokens.Leaf Cpy)
     else (if bytes_eq word (codes "SIG") then Ok (tokens.Leaf Sig)
     else (if bytes_eq word (codes "HSH") then Ok (tokens.Leaf Hsh)
+    else (if bytes_eq word (codes "NUL") then Ok (tokens.Leaf Nul)
     else (if bytes_eq word (codes "USM") then Ok tokens.Usm
     else (if bytes_eq word (codes "KIM") then Ok tokens.Kim
     else (if is_name word then Ok (tokens.Value (Word word))
     else (if is_decimal word then decimal_token word
-    else Err kinds.Word))))))
+    else Err kinds.Word)))))))
 
 abbrev pub word_is : List ℕ → Result Token Kind → Lexeme
 word_is word (Ok token) = Read token (length word)

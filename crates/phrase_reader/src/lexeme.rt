@@ -69,7 +69,7 @@ fn is_decimal(word: &[u8]) -> bool
     are_digits(word)
 }
 
-/// The number that digits write, or 4294967296 where it is greater.
+/// The number that digits write, or 4294967296 if it is greater.
 #[tactic(auto, using(crate::proofs::Words::capped_more))]
 fn capped_decimal(digits: &[u8]) -> u64
     ensures { result ≡ min (decimal_from 0 digits.now) 4294967296 }
@@ -113,6 +113,9 @@ fn word_token(word: &[u8]) -> Result<Token, Kind>
     }
     if word == b"HSH".as_slice() {
         return Ok(Token::Leaf(Leaf::Hsh));
+    }
+    if word == b"NUL".as_slice() {
+        return Ok(Token::Leaf(Leaf::Nul));
     }
     if word == b"USM".as_slice() {
         return Ok(Token::Usm);
@@ -182,7 +185,8 @@ fn mark(byte: u8) -> Option<Token>
     }
 }
 
-/// What stands at the front of a text that begins with no blank. Its time is linear in its length.
+/// What stands at the front of a text that does not begin with a blank. Its time is linear in its
+/// length.
 pub fn front(text: &[u8]) -> Lexeme
     ensures { result ≡ front text.now }
 {

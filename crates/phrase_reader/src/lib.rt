@@ -1,7 +1,7 @@
-//! Reads and prints the text of a phrase. The whole grammar, the tokens and the nine refusals stand in
-//! `specs/` as relations on whole texts and lists of tokens; the code goes over the bytes once, with a
-//! stack of open brackets, in time linear in the text. Each text has one reading alone, a phrase or a
-//! refusal, and the canonical text of a phrase is read as that phrase: two laws.
+//! Reads and prints the text of a phrase. The whole grammar, the tokens and the nine refusals are in
+//! `specs/`, as relations on whole texts and lists of tokens; the code goes over the bytes once, with a
+//! stack of open brackets, in time linear in the text. Two laws say that each text has only one
+//! reading, a phrase or a refusal, and that the canonical text of a phrase is read as that phrase.
 #![tactic(auto)]
 
 mod laws;
@@ -15,7 +15,7 @@ mod state;
 mod tests;
 mod token;
 
-pub use laws::{print_law, reading_law};
+pub use laws::{print_law, reading_law, spelling_law};
 pub use printer::print;
-pub use reader::read;
+pub use reader::{TEXT_BYTES, read};
 pub use refusal::{Kind, ReadError};

@@ -1,14 +1,15 @@
 ghost use Rattle.std.specs.Prelude.{◌≤◌, length};
+ghost use Rattle.phrase_reader.specs.declared.reader.TheConstants.{TEXT_BYTES};
 ghost use Rattle.phrase_reader.specs.Reading.{Finds};
 
 use crate::lexeme::{Lexeme, blanks, front};
 use crate::refusal::Kind;
 use crate::token::Token;
 
-/// What is found from an offset of a text on, blanks passed over.
+/// What is found in a text from an offset on, after any blanks.
 #[derive(Clone, Copy, Debug, PartialEq, Eq)]
 pub enum Piece {
-    /// A token, where it begins, and the offset behind it.
+    /// A token, the offset where it begins, and the offset after it.
     Token(Token, usize, usize),
     /// A byte or a word that is refused, with its offset.
     Refused(Kind, usize),
@@ -18,7 +19,7 @@ pub enum Piece {
 
 /// What is found from an offset on. Its time is linear in the bytes that it passes over.
 pub fn find(text: &[u8], offset: usize) -> Piece
-    requires small { length text.now ≤ 65536 }
+    requires small { length text.now ≤ TEXT_BYTES }
     requires inside { offset ≤ length text.now }
     ensures { Finds text.now offset result }
 {

@@ -2,52 +2,14 @@ ghost use Rattle.std.specs.Prelude.{◌≡◌, ◌≤◌, ◌∷◌, ◌++◌, �
 ghost use Rattle.phrase_tree.specs.Name.{IsName};
 ghost use Rattle.phrase_tree.specs.Term.{term, is_branch, is_chain};
 ghost use Rattle.phrase_tree.specs.Numbering.{IsSized};
-ghost use Rattle.phrase_reader.specs.Canonical.{arg_text, args_text, asp_text, sign, order, op_text, canonical, IsArg, AreArgs, IsAsp, IsWritable};
+ghost use Rattle.phrase_reader.specs.Canonical.{sign, order, op_text, canonical, IsWritable};
 ghost use Rattle.phrase_reader.specs.Refusal.{IsRead};
 ghost use Rattle.phrase_reader.specs.Printing.{opening, closing, is_leaf};
 
+use crate::reader::TEXT_BYTES;
 use byte_ports::Bytes;
-use itoa::Buffer;
-use phrase_tree::{Arg, Asp, NoMemory, Phrase, Place, Split};
+use phrase_tree::{NoMemory, Phrase, Place, Split, push_asp, push_bytes};
 use std::alloc::Global;
-
-fn push_piece(text: &mut Vec<u8>, piece: &[u8]) -> Result<(), NoMemory>
-    ensures { OnOk result (text.new.items ≡ text.old.items ++ piece.now) }
-{
-    text.extend_from_slice(piece)?;
-    Ok(())
-}
-
-fn push_arg(text: &mut Vec<u8>, arg: &Arg) -> Result<(), NoMemory>
-    ensures text { OnOk result (text.new.items ≡ text.old.items ++ arg_text arg.now) }
-    ensures written { IsArg arg.now }
-{
-    match arg {
-        Arg::Word(name) => push_piece(text, name.bytes()),
-        Arg::Number(number) => {
-            let mut buffer = Buffer::new();
-            push_piece(text, buffer.format(*number).as_bytes())
-        }
-    }
-}
-
-fn push_args(text: &mut Vec<u8>, args: &[Arg]) -> Result<(), NoMemory>
-    ensures { OnOk result ((text.new.items ≡ text.old.items ++ args_text args.now) × AreArgs args.now) }
-{
-    let [first, rest @ ..] = args else {
-        return Ok(());
-    };
-    push_piece(text, b" ")?;
-    push_arg(text, first)?;
-    push_args(text, rest)
-}
-
-fn push_asp(text: &mut Vec<u8>, asp: &Asp) -> Result<(), NoMemory>
-    ensures { OnOk result ((text.new.items ≡ text.old.items ++ asp_text asp.now) × IsAsp asp.now) }
-{
-    push_piece(text, asp.name.bytes())?;
-    push_args(text, asp.args.items())
-}
 
 fn sign(given: bool) -> u8
     ensures { result ≡ sign given }
@@ -73,7 +35,7 @@ fn push_op(text: &mut Vec<u8>, parallel: bool, split: &Split) -> Result<(), NoMe
     let left = sign(split.left);
     let order = order(parallel);
     let right = sign(split.right);
-    push_piece(text, &[left, order, right])
+    push_bytes(text, &[left, order, right])
 }
 
 /// What stands between the arms of a branch.
@@ -87,9 +49,9 @@ fn push_between(
     ensures { OnOk result (text.new.items ≡ text.old.items ++ (closing closes ++ 32 ∷ (op_text parallel split.now ++ 32 ∷ opening opens))) }
 {
     push_closing(text, closes)?;
-    push_piece(text, b" ")?;
+    push_bytes(text, b" ")?;
     push_op(text, parallel, split)?;
-    push_piece(text, b" ")?;
+    push_bytes(text, b" ")?;
     push_opening(text, opens)
 }
 
@@ -98,7 +60,7 @@ fn push_arrow(text: &mut Vec<u8>, closes: bool, opens: bool) -> Result<(), NoMem
     ensures { OnOk result (text.new.items ≡ text.old.items ++ (closing closes ++ (codes " -> " ++ opening opens))) }
 {
     push_closing(text, closes)?;
-    push_piece(text, b" -> ")?;
+    push_bytes(text, b" -> ")?;
     push_opening(text, opens)
 }
 
@@ -106,9 +68,9 @@ fn push_arrow(text: &mut Vec<u8>, closes: bool, opens: bool) -> Result<(), NoMem
 fn push_request(text: &mut Vec<u8>, place: &Place) -> Result<(), NoMemory>
     ensures { OnOk result ((text.new.items ≡ text.old.items ++ 64 ∷ (place.now ++ 32 ∷ 91 ∷ [])) × IsName place.now) }
 {
-    push_piece(text, b"@")?;
-    push_piece(text, place.bytes())?;
-    push_piece(text, b" [")
+    push_bytes(text, b"@")?;
+    push_bytes(text, place.bytes())?;
+    push_bytes(text, b" [")
 }
 
 fn is_branch(phrase: &Phrase) -> bool
@@ -133,7 +95,7 @@ fn push_opening(text: &mut Vec<u8>, wanted: bool) -> Result<(), NoMemory>
     ensures { OnOk result (text.new.items ≡ text.old.items ++ opening wanted) }
 {
     if wanted {
-        return push_piece(text, b"(");
+        return push_bytes(text, b"(");
     }
     Ok(())
 }
@@ -142,7 +104,7 @@ fn push_closing(text: &mut Vec<u8>, wanted: bool) -> Result<(), NoMemory>
     ensures { OnOk result (text.new.items ≡ text.old.items ++ closing wanted) }
 {
     if wanted {
-        return push_piece(text, b")");
+        return push_bytes(text, b")");
     }
     Ok(())
 }
@@ -152,19 +114,20 @@ fn push_leaf(text: &mut Vec<u8>, phrase: &Phrase) -> Result<(), NoMemory>
     ensures { OnOk result ((text.new.items ≡ text.old.items ++ canonical (term phrase.now)) × IsWritable (term phrase.now)) }
 {
     match phrase {
-        Phrase::Sig => push_piece(text, b"SIG"),
-        Phrase::Hsh => push_piece(text, b"HSH"),
+        Phrase::Sig => push_bytes(text, b"SIG"),
+        Phrase::Hsh => push_bytes(text, b"HSH"),
+        Phrase::Nul => push_bytes(text, b"NUL"),
         Phrase::Usm(asp) => {
-            push_piece(text, b"USM ")?;
+            push_bytes(text, b"USM ")?;
             push_asp(text, asp)
         }
         Phrase::Kim(target, asp) => {
-            push_piece(text, b"KIM ")?;
-            push_piece(text, target.bytes())?;
-            push_piece(text, b" ")?;
+            push_bytes(text, b"KIM ")?;
+            push_bytes(text, target.bytes())?;
+            push_bytes(text, b" ")?;
             push_asp(text, asp)
         }
-        _ => push_piece(text, b"CPY"),
+        _ => push_bytes(text, b"CPY"),
     }
 }
 
@@ -174,13 +137,16 @@ fn push_phrase(text: &mut Vec<u8>, phrase: &Phrase) -> Result<(), NoMemory>
     ensures { OnOk result ((text.new.items ≡ text.old.items ++ canonical (term phrase.now)) × IsWritable (term phrase.now)) }
 {
     match phrase {
-        Phrase::Cpy | Phrase::Sig | Phrase::Hsh | Phrase::Usm(_) | Phrase::Kim(_, _) => {
-            push_leaf(text, phrase)
-        }
+        Phrase::Cpy
+        | Phrase::Sig
+        | Phrase::Hsh
+        | Phrase::Nul
+        | Phrase::Usm(_)
+        | Phrase::Kim(_, _) => push_leaf(text, phrase),
         Phrase::At(place, body) => {
             push_request(text, place)?;
             push_phrase(text, body)?;
-            push_piece(text, b"]")
+            push_bytes(text, b"]")
         }
         Phrase::Then(left, right) => {
             push_opening(text, is_branch(left))?;
@@ -206,13 +172,13 @@ fn push_phrase(text: &mut Vec<u8>, phrase: &Phrase) -> Result<(), NoMemory>
     }
 }
 
-/// The canonical text of a phrase, in time linear in that text. An error is want of memory. Where the
-/// text has at most 65,536 bytes, it is read as that phrase again.
+/// The canonical text of a phrase, in time linear in that text. An error is want of memory. If the text
+/// has at most 65,536 bytes, it is read as that phrase again.
 #[tactic(auto, using(crate::proofs::RoundTrip::round_trip))]
 pub fn print(alloc: Global, phrase: &Phrase) -> Result<Bytes, NoMemory>
     requires { IsSized (term phrase.now) }
     ensures text { IfOk result (λ text. text ≡ canonical (term phrase.now)) }
-    ensures again { IfOk result (λ text. length text ≤ 65536 → IsRead text (term phrase.now)) }
+    ensures again { IfOk result (λ text. length text ≤ TEXT_BYTES → IsRead text (term phrase.now)) }
 {
     let mut text = Vec::new(alloc);
     push_phrase(&mut text, phrase)?;

@@ -4,23 +4,21 @@ ghost use Rattle.phrase_tree.specs.Numbering.{IsSized};
 ghost use Rattle.phrase_reader.specs.declared.refusal.Kind.{Kind};
 ghost use Rattle.phrase_reader.specs.Tokens.{found};
 ghost use Rattle.phrase_reader.specs.Refusal.{IsRefusal, IsRead, token_events};
+ghost use Rattle.phrase_reader.specs.Answer.{AnswersWith, UnlessNoMemory};
 ghost use Rattle.phrase_reader.specs.Machine.{start, finished, unfit, step, limit, verdict, state_of};
-ghost use Rattle.phrase_reader.specs.Reading.{AnswersWith, UnlessNoMemory, Reads, Accepts, AcceptsCount, Finishes, stopped};
+ghost use Rattle.phrase_reader.specs.Reading.{Reads, Accepts, AcceptsCount, Finishes, stopped};
 
 use crate::piece::{Piece, find};
 use crate::refusal::{Kind, ReadError};
 use crate::state::{State, Stop};
 use crate::token::Token;
-use phrase_tree::Phrase;
+use phrase_tree::{EVENTS, Phrase};
 use std::alloc::Global;
 
 /// The greatest length of a text, in bytes.
-const TEXT_BYTES: usize = 65_536;
+pub const TEXT_BYTES: usize = 65_536;
 
-/// The greatest count of events.
-const EVENTS: u32 = 1_024;
-
-/// What was read of a text, how many events it counts, and why a token is refused that doesn't fit.
+/// What was read of a text, how many events it counts, and why a token that doesn't fit is refused.
 #[derive(Debug, Drop)]
 pub struct Reader {
     pub state: State,
@@ -69,7 +67,7 @@ fn stopped(stop: Stop, unfit: Kind, place: u32) -> ReadError
 
 impl Reader {
     fn accept(self, alloc: Global, token: Token, place: u32) -> Result<Reader, ReadError>
-        requires few { self.events ≤ 1024 }
+        requires few { self.events ≤ EVENTS }
         requires ready { self.unfit ≡ unfit (finished (state_of self.state)) }
         ensures { Accepts (state_of self.state) self.events token place result }
     {
@@ -102,7 +100,7 @@ impl Reader {
 }
 
 fn read_bytes(alloc: Global, text: &[u8]) -> Result<Phrase, ReadError>
-    requires { length text.now ≤ 65536 }
+    requires { length text.now ≤ TEXT_BYTES }
     ensures { Reads result (found 0 0 text.now) }
 {
     let mut reader = Reader {
@@ -131,10 +129,10 @@ fn read_bytes(alloc: Global, text: &[u8]) -> Result<Phrase, ReadError>
     }
 }
 
-/// Reads the text of a phrase. The answer is a phrase exactly where the text has no refusal and its
-/// tokens spell that phrase; it has at most 1,024 events and 64 open brackets. Else it is the first
-/// refusal of the text, with its offset in bytes, or want of memory. The bytes are read once, with a
-/// stack of open brackets, in time linear in the text.
+/// Reads the text of a phrase. The answer is a phrase exactly when the text has no refusal and its
+/// tokens spell that phrase; it has at most 2,048 events and 64 open brackets. Otherwise it is the
+/// first refusal of the text, with its offset in bytes, or want of memory. The bytes are read once,
+/// with a stack of open brackets, in time linear in the text.
 pub fn read(alloc: Global, text: &str) -> Result<Phrase, ReadError>
     ensures found { (phrase : Term) → UnlessNoMemory result (AnswersWith result phrase ↔ IsRead text.now phrase) }
     ensures refused { (place : ℕ) (kind : Kind) → UnlessNoMemory result ((result ≡ Err (ReadError.Refused place kind)) ↔ IsRefusal text.now place kind) }

@@ -1,11 +1,11 @@
-/// Why a text is no phrase.
+/// Why a text is not a phrase.
 #[derive(Clone, Copy, Debug, PartialEq, Eq)]
 pub enum Kind {
     /// A byte that begins no token, or that doesn't continue one.
     Char,
-    /// A word that is no keyword, no name and no decimal.
+    /// A word that is not a keyword, a name or a decimal.
     Word,
-    /// What must come here is something else.
+    /// Something else must come here.
     Expected,
     /// The tokens before it are a whole phrase, and this one doesn't continue it.
     Trailing,
@@ -17,7 +17,7 @@ pub enum Kind {
     TooDeep,
     /// More than 65,536 bytes.
     TooLong,
-    /// More than 1,024 events.
+    /// More than 2,048 events.
     TooManyEvents,
 }
 

@@ -1,17 +1,14 @@
 ghost use Rattle.std.specs.Prelude.{◌≡◌, ◌∷◌, [], None, Some, IfOk, MatchOption, option_map, length, nat_le, is_some};
 ghost use Rattle.phrase_tree.specs.Term.{term};
-ghost use Rattle.phrase_reader.specs.Grammar.{measurement, joined, leaf};
+ghost use Rattle.phrase_reader.specs.Grammar.{measurement, joined, bare};
 ghost use Rattle.phrase_reader.specs.Machine.{start, fresh, chain_with, branch_with, whole_with, unit_of, branch_of, finished, begun, step, limit, parts_of, arm_of, frame_of, stage_of, state_of, frames_on, args_full, too_many, too_deep, valued, with_name, named, inside, left_behind, bracketed, round_opened, square_opened, round_closed, square_closed, linked, armed, branched, Gives, GivesStage};
 ghost use Rattle.phrase_reader.specs.declared.state.Stage.TheVariants as stages;
 ghost use Rattle.phrase_reader.specs.declared.token.Token.TheVariants as tokens;
 
 use crate::refusal::Kind;
 use crate::token::{Leaf, Op, Token};
-use phrase_tree::{Arg, Args, Asp, Name, NoMemory, Phrase};
+use phrase_tree::{Arg, Args, Asp, BRACKETS, Name, NoMemory, Phrase};
 use std::alloc::Global;
-
-/// The greatest number of brackets that are open at once.
-const BRACKETS: usize = 64;
 
 /// A bracket that is open.
 #[derive(Clone, Copy, Debug, PartialEq, Eq)]
@@ -21,7 +18,7 @@ pub enum Bracket {
     Square(Name),
 }
 
-/// The left arm of a branch, with the op that stands behind it.
+/// The left arm of a branch, with the op that follows it.
 #[derive(Debug, Drop)]
 pub struct Arm {
     pub op: Op,
@@ -53,7 +50,7 @@ pub enum Stage {
     Square(Name),
     /// The target of a measurement.
     Target,
-    /// The name of a measurement, whose target was read where it has one.
+    /// The name of a measurement; its target, if it has one, was read.
     Service(Option<Name>),
     /// A measurement, which may have more arguments.
     Measured(Option<Name>, Asp),
@@ -200,7 +197,7 @@ fn enclosed(alloc: Global, bracket: Bracket, phrase: Phrase) -> Result<Phrase, N
 fn enter(inner: Parts, mut frames: Vec<Frame>, bracket: Bracket) -> Result<State, Stop>
     ensures { Gives result (Some (inside (parts_of inner) (frames_on [] frames.items) bracket)) (too_deep (frames_on [] frames.items)) }
 {
-    if frames.len() >= BRACKETS {
+    if frames.len() >= BRACKETS as usize {
         return Err(Stop::Limit(Kind::TooDeep));
     }
     let frame = Frame {
@@ -405,7 +402,7 @@ impl State {
         }
     }
 
-    /// The state behind one more token. An error says whether it doesn't fit, or breaks a limit.
+    /// The state after one more token. An error says whether it doesn't fit, or breaks a limit.
     pub fn push(self, alloc: Global, token: Token) -> Result<State, Stop>
         ensures { Gives result (step (state_of self) token) (limit (state_of self) token) }
     {
@@ -413,6 +410,7 @@ impl State {
             Token::Leaf(Leaf::Cpy) => self.begin(Stage::Ended(Phrase::Cpy)),
             Token::Leaf(Leaf::Sig) => self.begin(Stage::Ended(Phrase::Sig)),
             Token::Leaf(Leaf::Hsh) => self.begin(Stage::Ended(Phrase::Hsh)),
+            Token::Leaf(Leaf::Nul) => self.begin(Stage::Ended(Phrase::Nul)),
             Token::Usm => self.begin(Stage::Service(None)),
             Token::Kim => self.begin(Stage::Target),
             Token::At => self.begin(Stage::Place),
@@ -426,7 +424,7 @@ impl State {
         }
     }
 
-    /// The phrase that was read, where it is whole.
+    /// The phrase that was read, if it is whole.
     #[tactic(auto, using(crate::proofs::Frames::finished_some, crate::proofs::Frames::none_from))]
     pub fn phrase(self, alloc: Global) -> Result<Option<Phrase>, NoMemory>
         ensures { IfOk result (λ phrase. option_map term phrase ≡ finished (state_of self)) }

@@ -58,10 +58,10 @@ fn a_text_is_refused_past_its_limits(rt: HostRuntime) -> Result<(), Fail> {
             refused(64, Kind::TooDeep),
         ),
         (&[("(", 64), ("[", 1)], refused(64, Kind::Expected)),
-        (&[("CPY", 1), (" -> CPY", 1_023)], None),
+        (&[("CPY", 1), (" -> CPY", 2_047)], None),
         (
-            &[("CPY", 1), (" -> CPY", 1_024)],
-            refused(7_168, Kind::TooManyEvents),
+            &[("CPY", 1), (" -> CPY", 2_048)],
+            refused(14_336, Kind::TooManyEvents),
         ),
     ];
     for (parts, expected) in rows {
@@ -82,6 +82,8 @@ fn a_phrase_is_printed_in_its_canonical_text(rt: HostRuntime) -> Result<(), Fail
         ("((CPY))", "CPY"),
         ("\tSIG\r\n", "SIG"),
         ("HSH", "HSH"),
+        ("NUL", "NUL"),
+        ("USM scan->NUL", "USM scan -> NUL"),
         ("USM a x 1 0 4294967295", "USM a x 1 0 4294967295"),
         ("KIM q a_1 x 1", "KIM q a_1 x 1"),
         ("CPY->(CPY->CPY)", "CPY -> (CPY -> CPY)"),

@@ -9,6 +9,7 @@ pub enum Leaf {
     Cpy,
     Sig,
     Hsh,
+    Nul,
 }
 
 /// The operator of a branch.

@@ -5,9 +5,9 @@ use Rattle.std.specs.Prelude.{codes, true, false}
 use Rattle.phrase_tree.specs.declared.measurement.Asp.{Asp}
 use Rattle.phrase_tree.specs.declared.measurement.Arg.TheVariants.{Word}
 use Rattle.phrase_tree.specs.declared.phrase.Split.{Split}
-use Rattle.phrase_tree.specs.Term.{Term, cpy, sig, hsh, usm, kim, at, chain, seq, par}
+use Rattle.phrase_tree.specs.Term.{Term, cpy, sig, hsh, nul, usm, kim, leaf, at, chain, seq, par}
 use Rattle.phrase_tree.specs.Numbering.{event_count, depth}
-use Rattle.phrase_tree.specs.Events.{event, copies, measures, measures_at, seals, hashes, requests, replies, splits, joins, events_of}
+use Rattle.phrase_tree.specs.Events.{event, copies, measures, measures_at, seals, hashes, empties, requests, replies, splits, joins, events_of}
 
 abbrev bank : List ℕ
 bank = codes "bank"
@@ -29,7 +29,7 @@ to_right = record { left = false; right = true }
 
 -- @q [USM scan -> SIG]
 abbrev asked : Term
-asked = at q (chain (usm (measurement (codes "scan"))) sig)
+asked = at q (chain (leaf (usm (measurement (codes "scan")))) (leaf sig))
 
 asked_counts : event_count asked ≡ 4
 asked_counts = refl
@@ -42,7 +42,7 @@ asked_happens = refl
 
 -- USM a +~- USM b
 abbrev in_parallel : Term
-in_parallel = par to_left (usm (measurement (codes "a"))) (usm (measurement (codes "b")))
+in_parallel = par to_left (leaf (usm (measurement (codes "a")))) (leaf (usm (measurement (codes "b"))))
 
 in_parallel_counts : event_count in_parallel ≡ 4
 in_parallel_counts = refl
@@ -52,7 +52,7 @@ in_parallel_happens = refl
 
 -- USM a -<+ USM b
 abbrev in_sequence : Term
-in_sequence = seq to_right (usm (measurement (codes "a"))) (usm (measurement (codes "b")))
+in_sequence = seq to_right (leaf (usm (measurement (codes "a")))) (leaf (usm (measurement (codes "b"))))
 
 in_sequence_counts : event_count in_sequence ≡ 4
 in_sequence_counts = refl
@@ -62,7 +62,7 @@ in_sequence_happens = refl
 
 -- @q [@bank [@q [CPY]]]
 abbrev asked_back : Term
-asked_back = at q (at bank (at q cpy))
+asked_back = at q (at bank (at q (leaf cpy)))
 
 asked_back_counts : event_count asked_back ≡ 7
 asked_back_counts = refl
@@ -75,7 +75,7 @@ asked_back_happens = refl
 
 -- (CPY +<+ CPY) -> HSH
 abbrev hashed : Term
-hashed = chain (seq to_both cpy cpy) hsh
+hashed = chain (seq to_both (leaf cpy) (leaf cpy)) (leaf hsh)
 
 hashed_counts : event_count hashed ≡ 5
 hashed_counts = refl
@@ -96,8 +96,8 @@ files = record { name = codes "files"; args = Word (codes "etc") ∷ [] }
 abbrev of_a_bank : Term
 of_a_bank =
     seq to_both
-    (at ks (chain (kim us (measurement (codes "kernel"))) sig))
-    (at us (chain (chain (usm (measurement (codes "scanner"))) (usm files)) sig))
+    (at ks (chain (leaf (kim us (measurement (codes "kernel")))) (leaf sig)))
+    (at us (chain (chain (leaf (usm (measurement (codes "scanner")))) (leaf (usm files))) (leaf sig)))
 
 of_a_bank_counts : event_count of_a_bank ≡ 11
 of_a_bank_counts = refl
@@ -109,33 +109,43 @@ of_a_bank_happens : events_of of_a_bank bank 0 ≡ event 0 splits bank ∷ event
 of_a_bank_happens = refl
 
 -- USM a -> SIG +<+ CPY
-chain_as_an_arm : depth (seq to_both (chain (usm (measurement (codes "a"))) sig) cpy) ≡ 0
+chain_as_an_arm : depth (seq to_both (chain (leaf (usm (measurement (codes "a")))) (leaf sig)) (leaf cpy)) ≡ 0
 chain_as_an_arm = refl
 
 -- CPY -> CPY -> CPY, and CPY -> (CPY -> CPY)
-chain_on_the_left : depth (chain (chain cpy cpy) cpy) ≡ 0
+chain_on_the_left : depth (chain (chain (leaf cpy) (leaf cpy)) (leaf cpy)) ≡ 0
 chain_on_the_left = refl
 
-chain_on_the_right : depth (chain cpy (chain cpy cpy)) ≡ 1
+chain_on_the_right : depth (chain (leaf cpy) (chain (leaf cpy) (leaf cpy))) ≡ 1
 chain_on_the_right = refl
 
 -- (CPY +<+ CPY) -> HSH, and CPY -> (CPY +~- CPY)
 branch_on_the_left : depth hashed ≡ 1
 branch_on_the_left = refl
 
-branch_on_the_right : depth (chain cpy (par to_left cpy cpy)) ≡ 1
+branch_on_the_right : depth (chain (leaf cpy) (par to_left (leaf cpy) (leaf cpy))) ≡ 1
 branch_on_the_right = refl
 
 -- (CPY +~- CPY) +<+ CPY, and CPY +~- (CPY -<+ CPY)
-branch_as_the_left_arm : depth (seq to_both (par to_left cpy cpy) cpy) ≡ 1
+branch_as_the_left_arm : depth (seq to_both (par to_left (leaf cpy) (leaf cpy)) (leaf cpy)) ≡ 1
 branch_as_the_left_arm = refl
 
-branch_as_the_right_arm : depth (par to_left cpy (seq to_right cpy cpy)) ≡ 1
+branch_as_the_right_arm : depth (par to_left (leaf cpy) (seq to_right (leaf cpy) (leaf cpy))) ≡ 1
 branch_as_the_right_arm = refl
 
 -- @q [CPY +<+ CPY], and HSH -> (CPY +<+ (CPY +~- @q [CPY]))
-branch_that_is_asked : depth (at q (seq to_both cpy cpy)) ≡ 1
+branch_that_is_asked : depth (at q (seq to_both (leaf cpy) (leaf cpy))) ≡ 1
 branch_that_is_asked = refl
 
-one_in_the_other : depth (chain hsh (seq to_both cpy (par to_left cpy (at q cpy)))) ≡ 3
+one_in_the_other : depth (chain (leaf hsh) (seq to_both (leaf cpy) (par to_left (leaf cpy) (at q (leaf cpy))))) ≡ 3
 one_in_the_other = refl
+
+-- USM scan -> NUL
+abbrev emptied : Term
+emptied = chain (leaf (usm (measurement (codes "scan")))) (leaf nul)
+
+emptied_counts : event_count emptied ≡ 2
+emptied_counts = refl
+
+emptied_happens : events_of emptied bank 0 ≡ event 0 (measures (measurement (codes "scan"))) bank ∷ event 1 empties bank ∷ []
+emptied_happens = refl

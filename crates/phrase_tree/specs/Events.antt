@@ -2,7 +2,7 @@
 -- that count from 0 are this project's own).
 use Rattle.std.specs.Prelude.{◌+◌, ℕ, List, [], ◌∷◌, ◌++◌}
 use Rattle.phrase_tree.specs.declared.measurement.Asp.{Asp}
-use Rattle.phrase_tree.specs.Term.{Term, cpy, sig, hsh, usm, kim, at, chain, seq, par}
+use Rattle.phrase_tree.specs.Term.{Term, Leaf, cpy, sig, hsh, nul, usm, kim, leaf, at, chain, seq, par}
 use Rattle.phrase_tree.specs.Numbering.{event_count}
 
 -- what happens at an event
@@ -13,6 +13,7 @@ pub data Kind : Type 0 where
   measures_at : List ℕ → Asp → Kind
   seals : Kind
   hashes : Kind
+  empties : Kind
   -- the place that is asked, and that replies
   requests : List ℕ → Kind
   replies : List ℕ → Kind
@@ -27,13 +28,18 @@ pub record Event : Type 0 where
 abbrev pub event : ℕ → Kind → List ℕ → Event
 event number kind place = record { number = number; kind = kind; place = place }
 
+-- what happens at the event of a leaf
+abbrev pub leaf_kind : Leaf → Kind
+leaf_kind cpy = copies
+leaf_kind sig = seals
+leaf_kind hsh = hashes
+leaf_kind nul = empties
+leaf_kind (usm asp) = measures asp
+leaf_kind (kim target asp) = measures_at target asp
+
 -- the events of a phrase that a place runs from a number on, in the order of their numbers
 abbrev pub events_of : Term → List ℕ → ℕ → List Event
-events_of cpy place i = event i copies place ∷ []
-events_of sig place i = event i seals place ∷ []
-events_of hsh place i = event i hashes place ∷ []
-events_of (usm asp) place i = event i (measures asp) place ∷ []
-events_of (kim target asp) place i = event i (measures_at target asp) place ∷ []
+events_of (leaf form) place i = event i (leaf_kind form) place ∷ []
 events_of (at asked body) place i =
     event i (requests asked) place ∷ (events_of body asked (i + 1) ++ event (i + 1 + event_count body) (replies asked) place ∷ [])
 events_of (chain left right) place i = events_of left place i ++ events_of right place (i + event_count left)

@@ -2,3 +2,5 @@ pub mod Name
 pub mod Term
 pub mod Numbering
 pub mod Events
+pub mod Text
+pub mod Repeats

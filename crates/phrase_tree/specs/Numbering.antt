@@ -1,14 +1,11 @@
 -- How many events a phrase has, how deep it nests, and which phrases are sized.
 use Rattle.std.specs.Prelude.{◌+◌, ◌≤◌, ◌||◌, ℕ, max, if◌then◌else◌}
-use Rattle.phrase_tree.specs.Term.{Term, cpy, sig, hsh, usm, kim, at, chain, seq, par, is_branch, is_chain}
+use Rattle.phrase_tree.specs.declared.phrase.TheConstants.{EVENTS, BRACKETS}
+use Rattle.phrase_tree.specs.Term.{Term, leaf, at, chain, seq, par, is_branch, is_chain}
 
 -- the number of events (POST 2019): a request and a reply, a split and a join count one each
 abbrev pub event_count : Term → ℕ
-event_count cpy = 1
-event_count sig = 1
-event_count hsh = 1
-event_count (usm asp) = 1
-event_count (kim target asp) = 1
+event_count (leaf form) = 1
 event_count (at place body) = 2 + event_count body
 event_count (chain left right) = event_count left + event_count right
 event_count (seq split left right) = 2 + event_count left + event_count right
@@ -18,11 +15,7 @@ event_count (par split left right) = 2 + event_count left + event_count right
 -- brackets around what a request runs, and round ones around a branch that is a part of a chain or
 -- an arm, and around a chain that is the right part of a chain
 abbrev pub depth : Term → ℕ
-depth cpy = 0
-depth sig = 0
-depth hsh = 0
-depth (usm asp) = 0
-depth (kim target asp) = 0
+depth (leaf form) = 0
 depth (at place body) = 1 + depth body
 depth (chain left right) =
     max
@@ -33,7 +26,7 @@ depth (seq split left right) =
 depth (par split left right) =
     max (depth left + (if is_branch left then 1 else 0)) (depth right + (if is_branch right then 1 else 0))
 
--- at most 1,024 events and 64 open brackets
+-- at most 2,048 events and 64 open brackets
 pub record IsSized (phrase : Term) : Type 0 where
-  pub events : event_count phrase ≤ 1024
-  pub nesting : depth phrase ≤ 64
+  pub events : event_count phrase ≤ EVENTS
+  pub nesting : depth phrase ≤ BRACKETS

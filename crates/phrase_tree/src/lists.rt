@@ -31,7 +31,8 @@ impl Trace {
         &self.events
     }
 
-    /// Appends a number. An error is want of memory: it hands the number back, and the trace stays.
+    /// Appends a number. An error is want of memory: it hands the number back, and the trace is
+    /// unchanged.
     pub fn push(&mut self, item: u32) -> Result<(), u32>
         ensures ok { OnOk result (self.new ≡ self.old ++ item ∷ []) }
         ensures handed_back { IfErr result (λ event. event ≡ item) }
@@ -72,7 +73,7 @@ impl Names {
         &self.names
     }
 
-    /// Appends a name. An error is want of memory: it hands the name back, and the list stays.
+    /// Appends a name. An error is want of memory: it hands the name back, and the list is unchanged.
     pub fn push(&mut self, item: Name) -> Result<(), Name>
         ensures ok { OnOk result (self.new ≡ self.old ++ item ∷ []) }
         ensures handed_back { IfErr result (λ name. name ≡ item) }

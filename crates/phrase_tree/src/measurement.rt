@@ -57,7 +57,8 @@ impl Args {
         &self.items
     }
 
-    /// Appends an argument. It is handed back, and the list stays, exactly where four are held.
+    /// Appends an argument. It is handed back, and the list is unchanged, exactly when there are four
+    /// already.
     pub fn push(&mut self, arg: Arg) -> Result<(), Arg>
         ensures ok { OnOk result (self.new ≡ self.old ++ arg ∷ []) }
         ensures full { IsErr result ↔ (length self.old ≡ 4) }

@@ -83,7 +83,7 @@ fn padded(text: &[u8]) -> [u8; 32]
 }
 
 impl Name {
-    /// The name that this text spells; none exactly where it is no name.
+    /// The name that this text spells; none exactly when it is not a name.
     pub fn read(text: &str) -> Option<Name>
         ensures { SomeIff result (IsName text.now) text.now }
     {

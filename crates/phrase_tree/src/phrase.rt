@@ -7,6 +7,12 @@ use crate::memory::NoMemory;
 use crate::name::Place;
 use std::alloc::Global;
 
+/// The greatest number of events of a sized phrase.
+pub const EVENTS: u32 = 2_048;
+
+/// The greatest number of brackets that are open at once in the canonical text of a sized phrase.
+pub const BRACKETS: u32 = 64;
+
 /// Which arms of a branch get the evidence that stood before it: `true` all of it, `false` none.
 #[derive(Clone, Copy, Debug, PartialEq, Eq)]
 pub struct Split {
@@ -14,8 +20,8 @@ pub struct Split {
     pub right: bool,
 }
 
-/// A phrase of Copland (POST 2019): what is measured, where, in which order, and how the evidence
-/// is combined.
+/// A phrase of Copland (POST 2019): what is measured, where and in which order, and how the evidence is
+/// combined.
 #[derive(Debug, Drop)]
 pub enum Phrase {
     /// The evidence as it is.
@@ -24,6 +30,8 @@ pub enum Phrase {
     Sig,
     /// The hash of the evidence.
     Hsh,
+    /// No evidence, in place of what stood before.
+    Nul,
     /// A measurement by a service of the place.
     Usm(Asp),
     /// A measurement of a target place by a service of the place.
@@ -45,7 +53,12 @@ impl Phrase {
         ensures { result ≡ event_count (term self.now) }
     {
         match self {
-            Phrase::Cpy | Phrase::Sig | Phrase::Hsh | Phrase::Usm(_) | Phrase::Kim(_, _) => 1,
+            Phrase::Cpy
+            | Phrase::Sig
+            | Phrase::Hsh
+            | Phrase::Nul
+            | Phrase::Usm(_)
+            | Phrase::Kim(_, _) => 1,
             Phrase::At(_, body) => 2 + body.events(),
             Phrase::Then(left, right) => left.events() + right.events(),
             Phrase::Seq(_, left, right) | Phrase::Par(_, left, right) => {
@@ -82,7 +95,12 @@ impl Phrase {
         ensures { result ≡ depth (term self.now) }
     {
         match self {
-            Phrase::Cpy | Phrase::Sig | Phrase::Hsh | Phrase::Usm(_) | Phrase::Kim(_, _) => 0,
+            Phrase::Cpy
+            | Phrase::Sig
+            | Phrase::Hsh
+            | Phrase::Nul
+            | Phrase::Usm(_)
+            | Phrase::Kim(_, _) => 0,
             Phrase::At(_, body) => 1 + body.depth(),
             Phrase::Then(left, right) => {
                 let first = left.depth() + u32::from(left.is_branch());
@@ -105,6 +123,7 @@ impl Phrase {
             Phrase::Cpy => Phrase::Cpy,
             Phrase::Sig => Phrase::Sig,
             Phrase::Hsh => Phrase::Hsh,
+            Phrase::Nul => Phrase::Nul,
             Phrase::Usm(asp) => Phrase::Usm(asp.copy()),
             Phrase::Kim(target, asp) => Phrase::Kim(*target, asp.copy()),
             Phrase::At(place, body) => {

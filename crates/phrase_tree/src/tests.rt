@@ -155,7 +155,7 @@ fn in_parallel(
 }
 
 #[test]
-fn every_form_has_its_events(rt: HostRuntime) -> Result<(), Fail> {
+fn every_form_has_its_events_and_its_depth_and_is_copied(rt: HostRuntime) -> Result<(), Fail> {
     let alloc = rt.alloc();
     let both = Split {
         left: true,
@@ -178,5 +178,21 @@ fn every_form_has_its_events(rt: HostRuntime) -> Result<(), Fail> {
     assert_eq!(rt; hashed.events(), 5);
     let all = in_parallel(alloc, both, there, hashed)?;
     assert_eq!(rt; all.events(), 11);
+    assert_eq!(rt; all.depth(), 1);
+    assert_eq!(rt; Phrase::Nul.events(), 1);
+    assert_eq!(rt; Phrase::Nul.depth(), 0);
+    let emptied = chained(alloc, all, Phrase::Nul)?;
+    assert_eq!(rt; emptied.events(), 12);
+    assert_eq!(rt; emptied.depth(), 2);
+    let behind = chained(
+        alloc,
+        Phrase::Kim(name(&rt, "q"), measurement(&rt, "scan")),
+        emptied,
+    )?;
+    assert_eq!(rt; behind.depth(), 3);
+    let copy = behind.try_copy(alloc)?;
+    let first = format!(in alloc; "{behind:?}")?;
+    let again = format!(in alloc; "{copy:?}")?;
+    assert_eq!(rt; first.as_str(), again.as_str());
     Ok(())
 }

@@ -2,7 +2,7 @@
 use Rattle.std.proofs.Common.{◌≡◌, ◌+◌, ℕ, Bool, true, false, List, [], ◌∷◌, ◌++◌, Option, Some, IsTrue, if◌then◌else◌, nat_eq, map, refl, sym, ◌∙◌, subst}
 use Rattle.std.specs.Prelude.{is_some}
 use Rattle.std.specs.Cmp.Lexicographic.{pointwise}
-use Rattle.phrase_tree.specs.Term.{Term, cpy, sig, hsh, usm, kim, at, chain, seq, par}
+use Rattle.phrase_tree.specs.Term.{Term, leaf, at, chain, seq, par}
 use Rattle.phrase_tree.specs.Numbering.{event_count}
 use Rattle.phrase_tree.specs.Events.{Event, event, events_of, requests, replies, joins}
 use Rattle.seal_hmac.specs.Keys.{key_of}
@@ -10,7 +10,8 @@ use Rattle.session_model.specs.Session.{Session}
 use Rattle.place_check.specs.declared.entry.PlaceEntry.{PlaceEntry}
 use Rattle.place_check.specs.declared.entry.PlaceKind.{PlaceKind}
 use Rattle.place_check.specs.declared.entry.PlaceKind.TheVariants.{UnknownPlace, MayNotAsk}
-use Rattle.place_check.specs.Places.{index_from, is_place, keys_of, may_ask}
+use Rattle.phrase_tree.specs.Repeats.{index_from}
+use Rattle.place_check.specs.Places.{is_named, is_place, keys_of, may_ask}
 use Rattle.place_check.specs.Rules.{faults_among, faults_at, unless}
 use Rattle.place_check.specs.Session.{HaveKeys, IsCheckedAgainst, SessionHasKeys}
 use Rattle.place_check.proofs.RuleLemmas.{faults-append}
@@ -20,10 +21,10 @@ step true n key found index h = refl
 step false n key found index h = h
 
 -- a name has a key exactly where it is that of a place
-pub keys-of-places : (n : ℕ) (places : List PlaceEntry) (name : List ℕ) → is_some (key_of (keys_of places) name) ≡ is_some (index_from n places name)
+pub keys-of-places : (n : ℕ) (places : List PlaceEntry) (name : List ℕ) → is_some (key_of (keys_of places) name) ≡ is_some (index_from n (is_named name) places)
 keys-of-places n [] name = refl
 keys-of-places n (entry ∷ rest) name =
-    step (pointwise nat_eq entry.name name) n entry.key (key_of (keys_of rest) name) (index_from (n + 1) rest name) (keys-of-places (n + 1) rest name)
+    step (pointwise nat_eq entry.name name) n entry.key (key_of (keys_of rest) name) (index_from (n + 1) (is_named name) rest) (keys-of-places (n + 1) rest name)
 
 has_key : (places : List PlaceEntry) (name : List ℕ) → IsTrue (is_place places name) → IsTrue (is_some (key_of (keys_of places) name))
 has_key places name h = subst (λ b. IsTrue b) (sym (keys-of-places 0 places name)) h
@@ -54,11 +55,7 @@ asks_a_place true i rest h = refl
 asks_a_place false i rest h = absurd cc
 
 pub have-keys : (phrase : Term) (places : List PlaceEntry) (place : List ℕ) (i : ℕ) → IsTrue (is_place places place) → faults_among places (events_of phrase place i) ≡ [] → HaveKeys (keys_of places) (events_of phrase place i)
-have-keys cpy places place i p h = (has_key places place p, tt)
-have-keys sig places place i p h = (has_key places place p, tt)
-have-keys hsh places place i p h = (has_key places place p, tt)
-have-keys (usm asp) places place i p h = (has_key places place p, tt)
-have-keys (kim target asp) places place i p h = (has_key places place p, tt)
+have-keys (leaf form) places place i p h = (has_key places place p, tt)
 have-keys (at asked body) places place i p h =
     let ahead = faults_at places (event i (requests asked) place) in
     let inside = events_of body asked (i + 1) in

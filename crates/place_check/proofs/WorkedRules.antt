@@ -2,7 +2,7 @@
 use Rattle.std.proofs.Common.{◌≡◌, ℕ, List, [], ◌∷◌, None, Some, true, refl}
 use Rattle.std.specs.Prelude.{codes}
 use Rattle.phrase_tree.specs.declared.measurement.Asp.{Asp}
-use Rattle.phrase_tree.specs.Term.{cpy, usm, kim, at, chain, par}
+use Rattle.phrase_tree.specs.Term.{cpy, usm, kim, leaf, at, chain, par}
 use Rattle.place_check.specs.declared.entry.PlaceEntry.{PlaceEntry}
 use Rattle.place_check.specs.declared.entry.PlaceKind.TheVariants.{UnknownPlace, MayNotAsk, NotOffered, MayNotSee}
 use Rattle.place_check.specs.Places.{keys_of, place_index, repeats}
@@ -22,28 +22,28 @@ places =
 abbrev asp : List ℕ → Asp
 asp name = record { name = name; args = [] }
 
-a_request_that_is_allowed : faults places bank (at q (usm (asp (codes "scan")))) ≡ []
+a_request_that_is_allowed : faults places bank (at q (leaf (usm (asp (codes "scan"))))) ≡ []
 a_request_that_is_allowed = refl
 
-not_offered_where_it_is_asked : faults places bank (at q (usm (asp (codes "a")))) ≡ (1, NotOffered) ∷ []
+not_offered_where_it_is_asked : faults places bank (at q (leaf (usm (asp (codes "a"))))) ≡ (1, NotOffered) ∷ []
 not_offered_where_it_is_asked = refl
 
-a_place_that_asks_back : faults places bank (at q (at bank cpy)) ≡ (1, MayNotAsk) ∷ []
+a_place_that_asks_back : faults places bank (at q (at bank (leaf cpy))) ≡ (1, MayNotAsk) ∷ []
 a_place_that_asks_back = refl
 
-a_request_to_no_place : faults places bank (chain (at (codes "zz") cpy) (usm (asp (codes "x")))) ≡ (0, UnknownPlace) ∷ (0, MayNotAsk) ∷ (3, NotOffered) ∷ []
+a_request_to_no_place : faults places bank (chain (at (codes "zz") (leaf cpy)) (leaf (usm (asp (codes "x"))))) ≡ (0, UnknownPlace) ∷ (0, MayNotAsk) ∷ (3, NotOffered) ∷ []
 a_request_to_no_place = refl
 
-a_place_does_not_see_itself : faults places bank (kim bank (asp (codes "scan"))) ≡ (0, MayNotSee) ∷ []
+a_place_does_not_see_itself : faults places bank (leaf (kim bank (asp (codes "scan")))) ≡ (0, MayNotSee) ∷ []
 a_place_does_not_see_itself = refl
 
-a_target_that_is_seen : faults places bank (kim q (asp (codes "a"))) ≡ []
+a_target_that_is_seen : faults places bank (leaf (kim q (asp (codes "a")))) ≡ []
 a_target_that_is_seen = refl
 
-a_target_that_is_no_place : faults places q (kim (codes "zz") (asp (codes "a"))) ≡ (0, UnknownPlace) ∷ (0, NotOffered) ∷ (0, MayNotSee) ∷ []
+a_target_that_is_no_place : faults places q (leaf (kim (codes "zz") (asp (codes "a")))) ≡ (0, UnknownPlace) ∷ (0, NotOffered) ∷ (0, MayNotSee) ∷ []
 a_target_that_is_no_place = refl
 
-both_arms_are_checked : faults places q (par (record { left = true; right = true }) (usm (asp (codes "a"))) (usm (asp (codes "b")))) ≡ (1, NotOffered) ∷ (2, NotOffered) ∷ []
+both_arms_are_checked : faults places q (par (record { left = true; right = true }) (leaf (usm (asp (codes "a")))) (leaf (usm (asp (codes "b"))))) ≡ (1, NotOffered) ∷ (2, NotOffered) ∷ []
 both_arms_are_checked = refl
 
 places_by_name : place_index places q ≡ Some 1

@@ -1,6 +1,6 @@
 -- What a check of a session answers.
 use Rattle.std.specs.Prelude.{◌≡◌, List, [], Some, Result, Ok, Err}
-use Rattle.evidence_types.specs.Weight.{oversize_at}
+use Rattle.evidence_types.specs.Measure.{oversize_at}
 use Rattle.place_check.specs.declared.entry.PlaceEntry.{PlaceEntry}
 use Rattle.place_check.specs.declared.entry.PlaceFault.{PlaceFault}
 use Rattle.place_check.specs.declared.entry.PlaceFault.TheVariants.{Misplaced, Oversize}

@@ -1,8 +1,9 @@
 -- Places of a job: look-ups by name, and the first two of one name.
-use Rattle.std.specs.Prelude.{◌≡◌, ◌<◌, ◌+◌, ◌^◌, ℕ, Bool, List, [], ◌∷◌, take, length, map, Option, None, Some, Result, Ok, Err, nat_eq, slice_get, unwrap_or, is_some, if◌then◌else◌}
+use Rattle.std.specs.Prelude.{◌≡◌, ◌<◌, ◌^◌, ℕ, Bool, List, [], ◌∷◌, length, map, Option, None, Some, Result, Ok, Err, nat_eq, unwrap_or, is_some, if◌then◌else◌}
 use Rattle.std.specs.Option.{option_map}
 use Rattle.std.specs.List.{list_any}
 use Rattle.std.specs.Cmp.Lexicographic.{pointwise}
+use Rattle.phrase_tree.specs.Repeats.{AreDistinct, IsFirstRepeat, first_index, repeats_by}
 use Rattle.place_check.specs.declared.entry.PlaceEntry.{PlaceEntry}
 use Rattle.place_check.specs.declared.entry.PlacesError.{PlacesError}
 use Rattle.place_check.specs.declared.entry.PlacesError.TheVariants.{Repeated, NoMemory}
@@ -11,14 +12,9 @@ use Rattle.place_check.specs.declared.entry.PlacesError.TheVariants.{Repeated, N
 abbrev pub is_named : List ℕ → PlaceEntry → Bool
 is_named name entry = pointwise nat_eq entry.name name
 
--- where the place with this name stands, the first of the list counted by a number
-abbrev pub index_from : ℕ → List PlaceEntry → List ℕ → Option ℕ
-index_from number [] name = None
-index_from number (entry ∷ rest) name = if is_named name entry then Some number else index_from (number + 1) rest name
-
 -- where the place with this name stands
 abbrev pub place_index : List PlaceEntry → List ℕ → Option ℕ
-place_index places name = index_from 0 places name
+place_index places name = first_index (is_named name) places
 
 -- the entry of the place with this name
 abbrev pub entry_of : List PlaceEntry → List ℕ → Option PlaceEntry
@@ -51,33 +47,23 @@ may_see places place target = has (names_of (λ entry. entry.sees) places place)
 abbrev pub has_offer : List PlaceEntry → List ℕ → List ℕ → Bool
 has_offer places place measurement = has (names_of (λ entry. entry.offers) places place) measurement
 
--- the least index among these places of one with this entry's name
-abbrev pub repeated_in : List PlaceEntry → Option PlaceEntry → Option ℕ
-repeated_in places None = None
-repeated_in places (Some entry) = place_index places entry.name
+-- where the first place with this entry's name stands
+abbrev pub same_place : List PlaceEntry → PlaceEntry → Option ℕ
+same_place places entry = place_index places entry.name
 
 -- the least index that the place at an index repeats
 abbrev pub repeats : List PlaceEntry → ℕ → Option ℕ
-repeats places index = repeated_in (take index places) (slice_get places index)
-
--- no two places have one name
-abbrev pub AreDistinct : List PlaceEntry → Type 0
-AreDistinct places = (index : ℕ) → repeats places index ≡ None
-
--- the second is the least index that repeats an earlier one, and the first the least that it repeats
-pub record IsFirstRepeat (places : List PlaceEntry) (first second : ℕ) : Type 0 where
-  pub repeated : repeats places second ≡ Some first
-  pub least : (index : ℕ) → index < second → repeats places index ≡ None
+repeats = repeats_by same_place
 
 -- the list is kept where no two have one name, and else refused by its first repeat; want of memory may
 -- come in place of either
 abbrev pub IsKept : List PlaceEntry → Result (List PlaceEntry) PlacesError → Type 0
-IsKept places (Ok kept) = (kept ≡ places) × AreDistinct places
-IsKept places (Err (Repeated first second)) = IsFirstRepeat places first second
+IsKept places (Ok kept) = (kept ≡ places) × AreDistinct (repeats places)
+IsKept places (Err (Repeated first second)) = IsFirstRepeat (repeats places) first second
 IsKept places (Err NoMemory) = Unit {0}
 
 -- places of different names, with their keys beside them
 pub record IsKeyed (places : List PlaceEntry) (keys : List (List ℕ × List ℕ)) : Type 0 where
   pub few : length places < 2 ^ 32
-  pub distinct : AreDistinct places
+  pub distinct : AreDistinct (repeats places)
   pub keyed : keys ≡ keys_of places

@@ -1,10 +1,11 @@
 -- Which phrases a checked session may have, and the fact that a session was checked against places.
-use Rattle.std.specs.Prelude.{◌≡◌, ℕ, List, [], ◌∷◌, IsTrue, is_some}
+use Rattle.std.specs.Prelude.{◌≡◌, ℕ, List, [], IsTrue, is_some}
+use Rattle.std.specs.List.{AllByRecursion}
 use Rattle.phrase_tree.specs.declared.phrase.Phrase.{Phrase}
 use Rattle.phrase_tree.specs.Term.{Term, term}
 use Rattle.phrase_tree.specs.Numbering.{IsSized}
 use Rattle.phrase_tree.specs.Events.{Event, events_of}
-use Rattle.evidence_types.specs.Weight.{IsLight}
+use Rattle.evidence_types.specs.Measure.{IsLight}
 use Rattle.seal_hmac.specs.Keys.{key_of}
 use Rattle.session_model.specs.Session.{Session}
 use Rattle.place_check.specs.declared.entry.PlaceEntry.{PlaceEntry}
@@ -21,7 +22,7 @@ pub record CheckedSession : Type 0 where
 abbrev pub session_of : CheckedSession → Session
 session_of checked = record { root = checked.root; nonce = checked.nonce; phrase = term checked.phrase }
 
--- a phrase of at most 1,024 events and 64 open brackets, whose evidence is nowhere over the limit
+-- a phrase of at most 2,048 events and 64 open brackets, whose evidence is nowhere over the limit
 pub record IsBounded (phrase : Term) : Type 0 where
   pub sized : IsSized phrase
   pub light : IsLight phrase
@@ -33,8 +34,7 @@ pub record IsCheckedAgainst (session : Session) (places : List PlaceEntry) : Typ
 
 -- each of these events happens at a place that has a key
 abbrev pub HaveKeys : List (List ℕ × List ℕ) → List Event → Type 0
-HaveKeys keys [] = Unit {0}
-HaveKeys keys (event ∷ rest) = IsTrue (is_some (key_of keys event.place)) × HaveKeys keys rest
+HaveKeys keys events = AllByRecursion (λ event. IsTrue (is_some (key_of keys event.place))) events
 
 -- each event of a session does
 abbrev pub SessionHasKeys : Session → List (List ℕ × List ℕ) → Type 0

@@ -11,12 +11,12 @@ use crate::walk::walk;
 use evidence_types::first_over;
 use phrase_tree::{Phrase, Place};
 
-/// Checks a session against places. The error is the first rule that an event of its phrase breaks,
-/// by the event's number and then in the rules' order; where none is broken, the least event at which
-/// the weight of its evidence passes 262,144. A request wants a place that the asking place may ask;
-/// a measurement one that its place offers; a measurement of a target also a target that is a place
-/// and that the place may see. A place asks itself only where it has its own name. Takes no memory,
-/// and drops a phrase that it refuses.
+/// Checks a session against places. The error is the first rule that an event of its phrase breaks, by
+/// the event's number and then in the rules' order; if none is broken, the least event at which the
+/// weight of its evidence passes 262,144 or its nest 1,025. A request needs a place that the asking
+/// place may ask; a measurement needs to be one that its place offers; a measurement of a target also
+/// needs a target that is a place and that the measuring place may see. A place may ask itself only if
+/// its own name is among those that it may ask. Takes no memory, and drops a phrase that it refuses.
 pub fn check(
     places: &Places,
     root: Place,

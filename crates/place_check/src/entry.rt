@@ -24,7 +24,7 @@ pub enum PlacesError {
 /// The rule that an event breaks.
 #[derive(Clone, Copy, Debug, PartialEq, Eq)]
 pub enum PlaceKind {
-    /// A request to, or a measurement of, what is no place.
+    /// A request to something that is not a place, or a measurement of it.
     UnknownPlace,
     /// A request to a place that the asking place may not ask.
     MayNotAsk,
@@ -37,8 +37,10 @@ pub enum PlaceKind {
 /// Why a session was refused.
 #[derive(Clone, Copy, Debug, PartialEq, Eq)]
 pub enum PlaceFault {
-    /// The first broken rule, by the event and then in the order of `PlaceKind` that is the event's own.
+    /// The first broken rule, by event and then in the order of the rules for that event, as in
+    /// `PlaceKind`.
     Misplaced { event: u32, kind: PlaceKind },
-    /// No rule is broken, and this is the least event at which the weight passes 262,144.
+    /// No rule is broken, and this is the least event at which the weight passes 262,144 or the
+    /// nest 1,025.
     Oversize { event: u32 },
 }

@@ -1,5 +1,6 @@
 ghost use Rattle.std.specs.Prelude.{◌≡◌, ◌<◌, ◌^◌, length, IfOk};
-ghost use Rattle.place_check.specs.Places.{AreDistinct, keys_of, place_index};
+ghost use Rattle.phrase_tree.specs.Repeats.{AreDistinct};
+ghost use Rattle.place_check.specs.Places.{keys_of, place_index, repeats};
 
 use crate::entry::{PlaceEntry, PlacesError};
 use crate::repeat::{first_repeat, place_index};
@@ -30,7 +31,7 @@ impl Model for Places {
 impl Places {
     ghost use Rattle.place_check.specs.Places.{IsKept};
 
-    /// The places of a list; its first repeat where two have one name. It makes a ring of their keys,
+    /// The places of a list, or its first repeat if two have one name. It makes a ring of their keys,
     /// and takes time in the square of their number.
     pub fn of(alloc: Global, entries: Vec<PlaceEntry>) -> Result<Places, PlacesError>
         requires { length entries.items < 2 ^ 32 }
@@ -45,8 +46,7 @@ impl Places {
         }
     }
 
-    /// The index of the place with this name; none exactly where there is none. It looks at each in
-    /// turn.
+    /// The index of the place with this name; none exactly when there is none. It checks each in turn.
     pub fn find(&self, place: Place) -> Option<u32>
         ensures { result ≡ place_index self.now place }
     {
@@ -69,7 +69,7 @@ impl Places {
 
     pub fn items(&self) -> &[PlaceEntry]
         ensures items { result.now ≡ self.now }
-        ensures distinct { AreDistinct self.now }
+        ensures distinct { AreDistinct (repeats self.now) }
     {
         &self.entries
     }

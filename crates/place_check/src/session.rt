@@ -5,8 +5,8 @@ ghost use Rattle.place_check.specs.Session.{IsBounded};
 use phrase_tree::{Phrase, Place};
 use std::marker::Model;
 
-/// A session that was checked: its phrase has at most 1,024 events and 64 open brackets, and the
-/// weight of its evidence passes the limit nowhere.
+/// A session that was checked: its phrase has at most 2,048 events and 64 open brackets, and the weight
+/// of its evidence is nowhere over the limit.
 #[derive(Debug, Drop)]
 pub struct Checked {
     root: Place,

@@ -105,7 +105,7 @@ fn right_arm_is_wrong(rt: &impl Abort, alloc: Global) -> Result<Phrase, NoMemory
     in_sequence(alloc, split, left, Phrase::Usm(asp(rt, "c")))
 }
 
-/// Checks a phrase at `bank`: the fault is to be this one, or none.
+/// Checks a phrase at `bank`: the fault must be this one, or none.
 fn expect(rt: &impl Abort, places: &Places, phrase: Phrase, fault: Option<PlaceFault>)
     requires { IsSized (term phrase) }
 {

@@ -130,7 +130,7 @@ pub(crate) fn walk(
     ensures next { IfOk result (λ next. next ≡ number + event_count (term phrase.now)) }
 {
     match phrase {
-        Phrase::Cpy | Phrase::Sig | Phrase::Hsh => Ok(number + 1),
+        Phrase::Cpy | Phrase::Sig | Phrase::Hsh | Phrase::Nul => Ok(number + 1),
         Phrase::Usm(asp) => passed(number, measurement_fault(places, place, asp)),
         Phrase::Kim(target, asp) => passed(number, target_fault(places, place, *target, asp)),
         Phrase::At(asked, body) => {

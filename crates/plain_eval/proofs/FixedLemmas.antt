@@ -3,7 +3,7 @@ use Rattle.std.proofs.Common.{◌≡◌, ◌<◌, ◌⊎◌, ℕ, zero, suc, Boo
 use Rattle.std.proofs.lemmas.Bool.{cases_order, eqb-true}
 use Rattle.std.specs.Prelude.{◌≢◌, ◌↔◌, nat_eq, Contains, IsSome, slice_index_or}
 use Rattle.std.specs.Option.{option_map}
-use Rattle.phrase_tree.specs.Events.{Kind, copies, measures, measures_at, seals, hashes, requests, replies, splits, joins, Event, events_of}
+use Rattle.phrase_tree.specs.Events.{Kind, copies, measures, measures_at, seals, hashes, empties, requests, replies, splits, joins, Event, events_of}
 use Rattle.evidence_types.specs.Bytes.{bundle}
 use Rattle.bench_trait.specs.Artefacts.{artefact_bytes}
 use Rattle.bench_trait.specs.Asking.{ahead_of, question_of, questions_of, question_among}
@@ -152,6 +152,7 @@ ahead_holds nonce number place (measures asp) asks h = (refl, h)
 ahead_holds nonce number place (measures_at target asp) asks h = (refl, h)
 ahead_holds nonce number place seals asks h = h
 ahead_holds nonce number place hashes asks h = h
+ahead_holds nonce number place empties asks h = h
 ahead_holds nonce number place (requests asked) asks h = h
 ahead_holds nonce number place (replies asked) asks h = h
 ahead_holds nonce number place splits asks h = h

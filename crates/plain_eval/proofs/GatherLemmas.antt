@@ -3,7 +3,7 @@ use Rattle.std.proofs.Common.{◌≡◌, ◌+◌, ◌<◌, ◌≤◌, ℕ, Bool,
 use Rattle.std.specs.Prelude.{nat_eq, IfOk}
 use Rattle.std.proofs.lemmas.List.{append-nil}
 use Rattle.phrase_tree.specs.declared.phrase.Split.{Split}
-use Rattle.phrase_tree.specs.Term.{Term, cpy, sig, hsh, usm, kim, at, chain, seq, par}
+use Rattle.phrase_tree.specs.Term.{Term, cpy, sig, hsh, nul, usm, kim, leaf, at, chain, seq, par}
 use Rattle.phrase_tree.specs.Numbering.{event_count}
 use Rattle.phrase_tree.specs.Events.{Event, event as happening, events_of, replies, joins}
 use Rattle.phrase_tree.specs.declared.memory.NoMemory.{NoMemory}
@@ -69,11 +69,12 @@ pub asks_of_par : (nonce place : List ℕ) (split : Split) (left right : Term) (
 asks_of_par nonce place split left right first = asks_of_seq nonce place split left right first
 
 pub asks_within : (nonce : List ℕ) (phrase : Term) (place : List ℕ) (first : ℕ) → AreWithin first (first + event_count phrase) (asks_of nonce phrase place first)
-asks_within nonce cpy place first = tt
-asks_within nonce sig place first = tt
-asks_within nonce hsh place first = tt
-asks_within nonce (usm asp) place first = (omega arith, omega arith, tt)
-asks_within nonce (kim target asp) place first = (omega arith, omega arith, tt)
+asks_within nonce (leaf cpy) place first = tt
+asks_within nonce (leaf sig) place first = tt
+asks_within nonce (leaf hsh) place first = tt
+asks_within nonce (leaf nul) place first = tt
+asks_within nonce (leaf (usm asp)) place first = (omega arith, omega arith, tt)
+asks_within nonce (leaf (kim target asp)) place first = (omega arith, omega arith, tt)
 asks_within nonce (at asked body) place first =
     rw (asks_of_request nonce asked place body first)
     (within-wider (first + 1) (first + 1 + event_count body) first (first + event_count (at asked body)) (asks_of nonce body asked (first + 1)) (omega arith) (omega arith) (asks_within nonce body asked (first + 1)))

@@ -1,6 +1,6 @@
 -- The keys of all events of a phrase are those of its seals too.
 use Rattle.std.proofs.Common.{ℕ, List, [], ◌∷◌, ◌++◌, ◌+◌}
-use Rattle.phrase_tree.specs.Term.{Term, cpy, sig, hsh, usm, kim, at, chain, seq, par}
+use Rattle.phrase_tree.specs.Term.{Term, cpy, sig, hsh, nul, usm, kim, leaf, at, chain, seq, par}
 use Rattle.phrase_tree.specs.Numbering.{event_count}
 use Rattle.phrase_tree.specs.Events.{Event, event, events_of, replies, joins}
 use Rattle.place_check.specs.Session.{HaveKeys}
@@ -15,11 +15,12 @@ keys_of_back keys [] back h = h
 keys_of_back keys (first ∷ rest) back h = keys_of_back keys rest back h.1
 
 pub has_keys : (phrase : Term) (place : List ℕ) (i : ℕ) (keys : List (List ℕ × List ℕ)) → HaveKeys keys (events_of phrase place i) → HasKeys phrase place keys
-has_keys cpy place i keys h = tt
-has_keys sig place i keys h = h.0
-has_keys hsh place i keys h = tt
-has_keys (usm asp) place i keys h = tt
-has_keys (kim target asp) place i keys h = tt
+has_keys (leaf cpy) place i keys h = tt
+has_keys (leaf sig) place i keys h = h.0
+has_keys (leaf hsh) place i keys h = tt
+has_keys (leaf nul) place i keys h = tt
+has_keys (leaf (usm asp)) place i keys h = tt
+has_keys (leaf (kim target asp)) place i keys h = tt
 has_keys (at asked body) place i keys h =
     let inside = events_of body asked (i + 1) in
     let last = event (i + 1 + event_count body) (replies asked) place ∷ [] in

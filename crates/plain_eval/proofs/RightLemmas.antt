@@ -4,16 +4,15 @@ use Rattle.std.proofs.Common.{◌≡◌, ◌≤◌, ◌<◌, ◌+◌, ℕ, zero,
 use Rattle.std.proofs.lemmas.Bool.{cases_lt, eqb-true}
 use Rattle.std.proofs.lemmas.List.Elements.{Contains-append_left, Contains-append_cases, Contains-push}
 use Rattle.std.specs.Prelude.{Contains, nat_eq, slice_index_or}
-use Rattle.phrase_tree.specs.Term.{Term, cpy, sig, hsh, usm, kim, at, chain, seq, par}
+use Rattle.phrase_tree.specs.Term.{Term, leaf, at, chain, seq, par}
 use Rattle.phrase_tree.specs.Numbering.{event_count}
-use Rattle.phrase_tree.specs.Events.{Kind, copies, measures, measures_at, seals, hashes, requests, replies, splits, joins, Event, events_of}
+use Rattle.phrase_tree.specs.Events.{Kind, copies, measures, measures_at, seals, hashes, empties, requests, replies, splits, joins, Event, events_of}
 use Rattle.bench_trait.specs.Asking.{question_of, ahead_of, questions_of, question_among}
 use Rattle.bench_trait.specs.declared.ask.Ask.{Ask}
 use Rattle.bench_trait.specs.declared.ask.AskKind.TheVariants.{Usm, Kim}
 use Rattle.bench_trait.specs.declared.bench.BenchFault.{BenchFault}
-use Rattle.event_system.specs.Trace.{IsTraceSoFar}
-use Rattle.event_system.proofs.OrderLaws.{before_rises}
-use Rattle.event_system.proofs.TraceLaws.{nothing_so_far, more_so_far}
+use Rattle.event_system.specs.Order.{IsBefore}
+use Rattle.event_system.specs.Trace.{MayFollow, IsTraceSoFar}
 use Rattle.session_model.specs.Record.{Record, done, failed, numbers_below, AreAnsweredBefore, IsDone, IsFailed, IsRisingRecord}
 use Rattle.session_model.specs.RightRecord.{AreAnsweredIn, IsRightDone, IsRightFailed, IsRightRecord}
 use Rattle.session_model.specs.Session.{Session, session_questions}
@@ -33,11 +32,7 @@ arms_below : (bound : ℕ) (left right : List Event) (join : Event) → AreBelow
 arms_below bound left right join l r j = both_below bound (left ++ right) (join ∷ []) (both_below bound left right l r) (j, tt)
 
 events_below : (bound : ℕ) (phrase : Term) (place : List ℕ) (first : ℕ) → first + event_count phrase ≤ bound → AreBelow bound (events_of phrase place first)
-events_below bound cpy place first l = (omega (arith, l), tt)
-events_below bound sig place first l = (omega (arith, l), tt)
-events_below bound hsh place first l = (omega (arith, l), tt)
-events_below bound (usm asp) place first l = (omega (arith, l), tt)
-events_below bound (kim target asp) place first l = (omega (arith, l), tt)
+events_below bound (leaf form) place first l = (omega (arith, l), tt)
 events_below bound (at asked body) place first l = (
   omega (arith, l),
   both_below bound (events_of body asked (first + 1)) _ (events_below bound body asked (first + 1) (omega (arith, l))) (omega (arith, l), tt),
@@ -65,6 +60,7 @@ ahead_below nonce number place (measures_at target asp) ask asks event bound l b
     first_below (record { nonce = nonce; event = number; place = place; kind = Kim target; asp = asp }) ask asks event bound l behind h
 ahead_below nonce number place seals ask asks event bound l behind h = behind h
 ahead_below nonce number place hashes ask asks event bound l behind h = behind h
+ahead_below nonce number place empties ask asks event bound l behind h = behind h
 ahead_below nonce number place (requests asked) ask asks event bound l behind h = behind h
 ahead_below nonce number place (replies asked) ask asks event bound l behind h = behind h
 ahead_below nonce number place splits ask asks event bound l behind h = behind h
@@ -103,42 +99,48 @@ in_below (suc last) n c =
       | inr end ↦ omega (arith, only_one last n end.0 end.1 end.2)
     ]
 
-rising_so_far : (phrase : Term) (bound : ℕ) → bound ≤ event_count phrase → IsTraceSoFar phrase 0 (numbers_below bound)
-rising_so_far phrase zero l = nothing_so_far phrase 0
-rising_so_far phrase (suc n) l =
-    more_so_far phrase 0 (numbers_below n) n (rising_so_far phrase n (omega (arith, l))) (record {
-      event = record { from = omega arith; below = omega (arith, l) };
-      once = λ c. let less = in_below n n c in omega (arith, less);
-      ready = λ x b. below_in n x (before_rises phrase 0 x n b).less;
-    })
+-- by the laws of the order and of traces so far
+module _
+    (rises : (phrase : Term) (first x y : ℕ) → IsBefore phrase first x y → x < y)
+    (nothing : (phrase : Term) (first : ℕ) → IsTraceSoFar phrase first [])
+    (more : (phrase : Term) (first : ℕ) (trace : List ℕ) (next : ℕ) → IsTraceSoFar phrase first trace → MayFollow phrase first trace next → IsTraceSoFar phrase first (trace ++ next ∷ []))
+  where
+    rising_so_far : (phrase : Term) (bound : ℕ) → bound ≤ event_count phrase → IsTraceSoFar phrase 0 (numbers_below bound)
+    rising_so_far phrase zero l = nothing phrase 0
+    rising_so_far phrase (suc n) l =
+        more phrase 0 (numbers_below n) n (rising_so_far phrase n (omega (arith, l))) (record {
+          event = record { from = omega arith; below = omega (arith, l) };
+          once = λ c. let less = in_below n n c in omega (arith, less);
+          ready = λ x b. below_in n x (rises phrase 0 x n b);
+        })
 
--- ---- the records
+    -- ---- the records
 
-right_done : (Gives : Ask → List ℕ → Type 0) (session : Session) (keys : List (List ℕ × List ℕ)) (trace : List ℕ) (answers : List (ℕ × List ℕ)) (bytes : List ℕ) → IsDone Gives session keys trace answers bytes → IsRightDone Gives session keys trace answers bytes
-right_done Gives session keys trace answers bytes d = record {
-  answered = d.answered;
-  traced = record {
-    so_far = subst (λ (t : List ℕ). IsTraceSoFar session.phrase 0 t) (sym d.whole) (rising_so_far session.phrase (event_count session.phrase) (omega arith));
-    whole = λ n e. subst (λ (t : List ℕ). Contains t n) (sym d.whole) (below_in (event_count session.phrase) n (omega (arith, e.below)));
-  };
-  bundled = d.bundled;
-}
-
-answered_in : (Gives : Ask → List ℕ → Type 0) (event : ℕ) (asks : List Ask) → AreAnsweredBefore Gives event asks → AreAnsweredIn Gives (numbers_below event) asks
-answered_in Gives event [] b = tt
-answered_in Gives event (ask ∷ asks) b = (λ c. b.0 (in_below event ask.event c), answered_in Gives event asks b.1)
-
-right_failed : (Gives : Ask → List ℕ → Type 0) (Fails : Ask → BenchFault → Type 0) (session : Session) (event : ℕ) (fault : BenchFault) (trace : List ℕ) → IsFailed Gives Fails session event fault trace → IsRightFailed Gives Fails session event fault trace
-right_failed Gives Fails session event fault trace f =
-    let event_fits : event ≤ event_count session.phrase = omega (arith, asked_below session event f.asked.0 f.asked.1) in
-    record {
-      asked = f.asked;
-      so_far = subst (λ (t : List ℕ). IsTraceSoFar session.phrase 0 t) (sym f.so_far) (rising_so_far session.phrase event event_fits);
-      ready = λ n b. subst (λ (t : List ℕ). Contains t n) (sym f.so_far) (below_in event n (before_rises session.phrase 0 n event b).less);
-      lacking = λ c. let less = in_below event event (subst (λ (t : List ℕ). Contains t event) f.so_far c) in omega (arith, less);
-      answered = subst (λ (t : List ℕ). AreAnsweredIn Gives t (session_questions session)) (sym f.so_far) (answered_in Gives event (session_questions session) f.before);
+    right_done : (Gives : Ask → List ℕ → Type 0) (session : Session) (keys : List (List ℕ × List ℕ)) (trace : List ℕ) (answers : List (ℕ × List ℕ)) (bytes : List ℕ) → IsDone Gives session keys trace answers bytes → IsRightDone Gives session keys trace answers bytes
+    right_done Gives session keys trace answers bytes d = record {
+      answered = d.answered;
+      traced = record {
+        so_far = subst (λ (t : List ℕ). IsTraceSoFar session.phrase 0 t) (sym d.whole) (rising_so_far session.phrase (event_count session.phrase) (omega arith));
+        whole = λ n e. subst (λ (t : List ℕ). Contains t n) (sym d.whole) (below_in (event_count session.phrase) n (omega (arith, e.below)));
+      };
+      bundled = d.bundled;
     }
 
-pub rising_right : (Gives : Ask → List ℕ → Type 0) (Fails : Ask → BenchFault → Type 0) (session : Session) (keys : List (List ℕ × List ℕ)) (found : Record) → IsRisingRecord Gives Fails session keys found → IsRightRecord Gives Fails session keys found
-rising_right Gives Fails session keys (done trace answers bytes) h = right_done Gives session keys trace answers bytes h
-rising_right Gives Fails session keys (failed event fault trace) h = right_failed Gives Fails session event fault trace h
+    answered_in : (Gives : Ask → List ℕ → Type 0) (event : ℕ) (asks : List Ask) → AreAnsweredBefore Gives event asks → AreAnsweredIn Gives (numbers_below event) asks
+    answered_in Gives event [] b = tt
+    answered_in Gives event (ask ∷ asks) b = (λ c. b.0 (in_below event ask.event c), answered_in Gives event asks b.1)
+
+    right_failed : (Gives : Ask → List ℕ → Type 0) (Fails : Ask → BenchFault → Type 0) (session : Session) (event : ℕ) (fault : BenchFault) (trace : List ℕ) → IsFailed Gives Fails session event fault trace → IsRightFailed Gives Fails session event fault trace
+    right_failed Gives Fails session event fault trace f =
+        let event_fits : event ≤ event_count session.phrase = omega (arith, asked_below session event f.asked.0 f.asked.1) in
+        record {
+          asked = f.asked;
+          so_far = subst (λ (t : List ℕ). IsTraceSoFar session.phrase 0 t) (sym f.so_far) (rising_so_far session.phrase event event_fits);
+          ready = λ n b. subst (λ (t : List ℕ). Contains t n) (sym f.so_far) (below_in event n (rises session.phrase 0 n event b));
+          lacking = λ c. let less = in_below event event (subst (λ (t : List ℕ). Contains t event) f.so_far c) in omega (arith, less);
+          answered = subst (λ (t : List ℕ). AreAnsweredIn Gives t (session_questions session)) (sym f.so_far) (answered_in Gives event (session_questions session) f.before);
+        }
+
+    pub rising_right : (Gives : Ask → List ℕ → Type 0) (Fails : Ask → BenchFault → Type 0) (session : Session) (keys : List (List ℕ × List ℕ)) (found : Record) → IsRisingRecord Gives Fails session keys found → IsRightRecord Gives Fails session keys found
+    rising_right Gives Fails session keys (done trace answers bytes) h = right_done Gives session keys trace answers bytes h
+    rising_right Gives Fails session keys (failed event fault trace) h = right_failed Gives Fails session event fault trace h

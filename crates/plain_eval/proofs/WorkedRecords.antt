@@ -1,7 +1,7 @@
 -- Records of one small session worked by hand: an edit of what a right record is is refused here.
 use Rattle.std.proofs.Common.{◌≡◌, ◌<◌, ◌⊎◌, ℕ, zero, suc, List, [], ◌∷◌, true, Some, get_or, inl, inr, refl, sym, ap, subst, arith}
-use Rattle.std.specs.Prelude.{Contains, slice_index_or}
-use Rattle.phrase_tree.specs.Term.{Term, usm, par}
+use Rattle.std.specs.Prelude.{Contains, slice_index_or, slice_index, take}
+use Rattle.phrase_tree.specs.Term.{Term, usm, leaf, par}
 use Rattle.evidence_types.specs.Bytes.{bundle}
 use Rattle.bench_trait.specs.declared.ask.Ask.{Ask}
 use Rattle.bench_trait.specs.declared.ask.AskKind.TheVariants.{Usm}
@@ -9,8 +9,6 @@ use Rattle.bench_trait.specs.declared.bench.BenchFault.{BenchFault}
 use Rattle.bench_trait.specs.declared.bench.BenchFault.TheVariants.{NoArtefact}
 use Rattle.event_system.specs.Order.{IsBefore}
 use Rattle.event_system.specs.Trace.{MayFollow, IsTraceSoFar}
-use Rattle.event_system.proofs.OrderLaws.{before_rises}
-use Rattle.event_system.proofs.TraceLaws.{nothing_so_far, more_so_far}
 use Rattle.session_model.specs.Record.{done, failed, IsRisingRecord}
 use Rattle.session_model.specs.RightRecord.{IsRightRecord}
 use Rattle.session_model.specs.Session.{Session}
@@ -18,7 +16,7 @@ use Rattle.session_model.specs.Value.{session_value}
 
 -- a split, the measurements a and b side by side, and a join: the events 0 to 3
 abbrev fork : Term
-fork = par (record { left = true; right = true }) (usm (record { name = 97 ∷ []; args = [] })) (usm (record { name = 98 ∷ []; args = [] }))
+fork = par (record { left = true; right = true }) (leaf (usm (record { name = 97 ∷ []; args = [] }))) (leaf (usm (record { name = 98 ∷ []; args = [] })))
 
 abbrev session : Session
 session = record { root = 113 ∷ []; nonce = []; phrase = fork }
@@ -48,6 +46,13 @@ before_arm arm x l (inr (inl closes)) = let impossible : ⊥ = omega (arith, l, 
 before_arm arm x l (inr (inr (inl inside))) = absurd inside
 before_arm arm x l (inr (inr (inr inside))) = absurd inside
 
+-- the earlier event has the lesser number
+earlier_is_less : (x y : ℕ) → IsBefore fork 0 x y → x < y
+earlier_is_less x y (inl opens) = opens.later
+earlier_is_less x y (inr (inl closes)) = closes.earlier
+earlier_is_less x y (inr (inr (inl inside))) = absurd inside
+earlier_is_less x y (inr (inr (inr inside))) = absurd inside
+
 nothing_there : (n : ℕ) → ¬ Contains {X = ℕ} [] n
 nothing_there n c = omega (arith, c.1)
 
@@ -58,7 +63,7 @@ split_follows : MayFollow fork 0 [] 0
 split_follows = record {
   event = record { from = omega arith; below = omega arith };
   once = nothing_there 0;
-  ready = λ x b. let rises = before_rises fork 0 x 0 b in absurd (omega (arith, rises.less));
+  ready = λ x b. let less = earlier_is_less x 0 b in absurd (omega (arith, less));
 }
 
 -- an arm may follow where the split stands, and it doesn't
@@ -109,25 +114,36 @@ join_follows : MayFollow fork 0 (0 ∷ 2 ∷ 1 ∷ []) 3
 join_follows = record {
   event = record { from = omega arith; below = omega arith };
   once = no_join;
-  ready = λ x b. all_three x (before_rises fork 0 x 3 b).less;
+  ready = λ x b. all_three x (earlier_is_less x 3 b);
 }
 
 -- ---- traces so far
 
 split_first : IsTraceSoFar fork 0 (0 ∷ [])
-split_first = more_so_far fork 0 [] 0 (nothing_so_far fork 0) split_follows
+split_first = record { each = each }
+  where
+    each : (k : ℕ) → k < 1 → MayFollow fork 0 (take k (0 ∷ [])) (slice_index (0 ∷ []) k)
+    each zero l = split_follows
+    each (suc k) l = absurd (omega arith)
 
 left_first : IsTraceSoFar fork 0 (0 ∷ 1 ∷ [])
-left_first =
-    more_so_far fork 0 (0 ∷ []) 1 split_first (arm_follows (0 ∷ []) 1 (omega arith) (omega arith) (split_there [] 0 refl) (not_one 0 1 (λ e. omega (arith, e))))
+left_first = record { each = each }
+  where
+    each : (k : ℕ) → k < 2 → MayFollow fork 0 (take k (0 ∷ 1 ∷ [])) (slice_index (0 ∷ 1 ∷ []) k)
+    each zero l = split_follows
+    each (suc zero) l = arm_follows (0 ∷ []) 1 (omega arith) (omega arith) (split_there [] 0 refl) (not_one 0 1 (λ e. omega (arith, e)))
+    each (suc (suc k)) l = absurd (omega arith)
 
-right_first : IsTraceSoFar fork 0 (0 ∷ 2 ∷ [])
-right_first =
-    more_so_far fork 0 (0 ∷ []) 2 split_first (arm_follows (0 ∷ []) 2 (omega arith) (omega arith) (split_there [] 0 refl) (not_one 0 2 (λ e. omega (arith, e))))
-
-right_then_left : IsTraceSoFar fork 0 (0 ∷ 2 ∷ 1 ∷ [])
-right_then_left =
-    more_so_far fork 0 (0 ∷ 2 ∷ []) 1 right_first (arm_follows (0 ∷ 2 ∷ []) 1 (omega arith) (omega arith) (split_there (2 ∷ []) 0 refl) (neither 0 2 1 (λ e. omega (arith, e)) (λ e. omega (arith, e))))
+-- the right arm's measurement, the left arm's, and the join
+right_first : IsTraceSoFar fork 0 (0 ∷ 2 ∷ 1 ∷ 3 ∷ [])
+right_first = record { each = each }
+  where
+    each : (k : ℕ) → k < 4 → MayFollow fork 0 (take k (0 ∷ 2 ∷ 1 ∷ 3 ∷ [])) (slice_index (0 ∷ 2 ∷ 1 ∷ 3 ∷ []) k)
+    each zero l = split_follows
+    each (suc zero) l = arm_follows (0 ∷ []) 2 (omega arith) (omega arith) (split_there [] 0 refl) (not_one 0 2 (λ e. omega (arith, e)))
+    each (suc (suc zero)) l = arm_follows (0 ∷ 2 ∷ []) 1 (omega arith) (omega arith) (split_there (2 ∷ []) 0 refl) (neither 0 2 1 (λ e. omega (arith, e)) (λ e. omega (arith, e)))
+    each (suc (suc (suc zero))) l = join_follows
+    each (suc (suc (suc (suc k)))) l = absurd (omega arith)
 
 whole : (n : ℕ) → n < 4 → Contains {X = ℕ} (0 ∷ 2 ∷ 1 ∷ 3 ∷ []) n
 whole zero l = (0, omega arith, refl)
@@ -143,7 +159,7 @@ done_right_first : IsRightRecord Gives Fails session [] (done (0 ∷ 2 ∷ 1 ∷
 done_right_first = record {
   answered = (refl, refl, (refl, refl, tt));
   traced = record {
-    so_far = more_so_far fork 0 (0 ∷ 2 ∷ 1 ∷ []) 3 right_then_left join_follows;
+    so_far = right_first;
     whole = λ n e. whole n (omega (arith, e.below));
   };
   bundled = refl;

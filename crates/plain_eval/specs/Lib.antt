@@ -2,5 +2,4 @@ pub mod Keyed
 pub mod Evaluating
 pub mod Gathering
 pub mod Walking
-pub mod Short
 pub mod Fixed

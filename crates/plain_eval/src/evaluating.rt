@@ -5,12 +5,12 @@ ghost use Rattle.evidence_types.specs.Answer.{FitsAnswer};
 ghost use Rattle.evidence_types.specs.Answers.{IsRising, answer_at};
 ghost use Rattle.evidence_types.specs.Bytes.{FitsBundle, encoding};
 ghost use Rattle.evidence_types.specs.Evidence.{evidence, usm as measured, kim as measured_at, seal, hash};
-ghost use Rattle.evidence_types.specs.Weight.{IsLight};
+ghost use Rattle.evidence_types.specs.Measure.{IsLight};
 ghost use Rattle.seal_hmac.specs.Keys.{key_of, key_at};
 ghost use Rattle.seal_hmac.specs.Seal.{seal_of, hash_of};
 ghost use Rattle.session_model.specs.Value.{Makings, part, value_of, session_value};
 ghost use Rattle.plain_eval.specs.Keyed.{HasKeys};
-ghost use Rattle.plain_eval.specs.Short.{HasShortAnswers};
+ghost use Rattle.session_model.specs.Short.{HasShortAnswers};
 ghost use Rattle.plain_eval.specs.Evaluating.{makings};
 
 use crate::copying::copy;
@@ -29,15 +29,15 @@ struct Materials<'a> {
     keys: &'a KeyRing,
 }
 
-/// The value of a part of a phrase, and the number behind its events.
+/// The value of a part of a phrase, and the number after its events.
 #[derive(Drop)]
 struct Made {
     value: Box<Value>,
     next: u32,
 }
 
-/// The answer of an event; an empty one where there is none. It looks in one half of the pairs at
-/// each step, since their events rise.
+/// The answer of an event; an empty one if there is none. It is found by binary search, since the
+/// events rise.
 #[tactic(auto, using(crate::proofs::AnswerLemmas::rising_take, crate::proofs::AnswerLemmas::rising_drop, crate::proofs::AnswerLemmas::fewer))]
 fn answer_of(pairs: &[(u32, Answer)], event: u32) -> Answer
     requires { IsRising pairs.now }
@@ -185,6 +185,10 @@ fn value_of(
             let value = hashed(alloc, first, before)?;
             Ok(ending(value, first))
         }
+        Phrase::Nul => {
+            let value = nodes::empty(alloc)?;
+            Ok(ending(value, first))
+        }
         Phrase::Usm(_) => {
             let value = usm(alloc, from, first, before)?;
             Ok(ending(value, first))
@@ -218,8 +222,8 @@ fn value_of(
     }
 }
 
-/// The same, in a frame of its own that is small: a chain nests as deep as it is long, while all other
-/// nesting is of brackets, of which few are open.
+/// The same, in a small frame of its own: a chain nests as deep as it is long, while all other nesting
+/// comes from brackets, and few of these are open.
 #[cycle(evaluation)]
 fn chained(
     alloc: Global,

@@ -11,8 +11,8 @@ ghost use Rattle.plain_eval.specs.Fixed.{IsFixed, SaysDone, HaveArtefacts};
 
 use bench_trait::{Bench, DigestBench};
 
-/// Where a bench has at most one answer or one fault for a question, a session that is run in the order
-/// of its numbers has at most one right record: with one list of keys, two right records are equal.
+/// If a bench has at most one answer or one fault for a question, a session that is run in the order of
+/// its numbers has at most one right record: with one list of keys, two right records are equal.
 pub fn fixed_bench_makes_one_record<B: Bench>()
     ensures { (bench : B) (artefacts : List Artefact) (session : Session) (keys : List (List ℕ × List ℕ)) (one other : Record) →
         IsFixed (B.gives bench artefacts) (B.fails bench artefacts) →
@@ -39,7 +39,7 @@ pub fn digests_make_one_record()
     fixed_bench_makes_one_record::<DigestBench>();
 }
 
-/// A right record of a session that is measured by `DigestBench` says 'done' exactly where the book has
+/// A right record of a session that is measured by `DigestBench` says 'done' exactly when the book has
 /// each artefact that the session asks for.
 pub fn done_where_artefacts_are_there()
     ensures { (artefacts : List Artefact) (session : Session) (keys : List (List ℕ × List ℕ)) (found : Record) →

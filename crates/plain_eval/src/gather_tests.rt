@@ -26,12 +26,12 @@ enum Said {
     Starves,
 }
 
-/// What is to be gathered.
+/// What must be gathered.
 #[derive(Clone, Copy)]
 enum Wanted {
     /// One answer alone, of this event.
     One(u32, &'static [u8]),
-    /// So many answers.
+    /// This many answers.
     Many(usize),
     Failed(u32, BenchFault),
     NoMemory,
@@ -108,7 +108,7 @@ fn three(rt: &impl Abort, alloc: Global) -> Result<Phrase, NoMemory>
     then(alloc, first, Phrase::Usm(asp(rt, "scan")))
 }
 
-/// `SIG` so many times and once more, joined by ` -> `.
+/// `SIG` this many times and once more, joined by ` -> `.
 fn seals(alloc: Global, more: u32) -> Result<Phrase, NoMemory>
     requires { more ≤ 1023 }
     ensures sized { IfOk result (λ phrase. IsSized (term phrase)) }

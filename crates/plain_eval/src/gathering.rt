@@ -18,7 +18,7 @@ use std::alloc::Global;
 pub enum Gathered {
     /// The answer of each measurement, by its event.
     All(Answers),
-    /// The first measurement that failed, by its event. None of a later event was asked for.
+    /// The first measurement that failed, by its event. No measurement of a later event was asked for.
     Failed { event: u32, fault: BenchFault },
 }
 
@@ -47,8 +47,8 @@ pub fn gather<B: Bench>(
 }
 
 /// Asks a bench for the answers to the questions of a session with this phrase, root and nonce, one
-/// after the other in the order of their events, up to the first fault. A want of memory is the
-/// bench's own, or that of the answers. It takes one walk over the phrase.
+/// after the other in the order of their events, up to the first fault. Want of memory is the bench's
+/// own, or that of the list of answers. It goes over the phrase once.
 pub fn gather_session<B: Bench>(
     alloc: Global,
     phrase: &Phrase,
@@ -84,8 +84,8 @@ struct Asking<'a, B> {
     bench: &'a B,
 }
 
-/// The number behind the events that were passed, and the answers up to there; or the event at which
-/// the walk stopped.
+/// The number after the events that were passed, and the answers up to there; or the event at which the
+/// walk stopped.
 #[derive(Drop)]
 enum Walk {
     Passed(u32, Answers),
@@ -112,7 +112,9 @@ fn gather_from<B: Bench>(
         walk) }
 {
     match phrase {
-        Phrase::Cpy | Phrase::Sig | Phrase::Hsh => Ok(Walk::Passed(first + 1, answers)),
+        Phrase::Cpy | Phrase::Sig | Phrase::Hsh | Phrase::Nul => {
+            Ok(Walk::Passed(first + 1, answers))
+        }
         Phrase::Usm(asp) => {
             let ask = question(asking.nonce, first, place, AskKind::Usm, asp);
             asked(asking, &ask, answers)
@@ -153,8 +155,8 @@ fn question(nonce: &[u8; 16], event: u32, place: Place, kind: AskKind, asp: &Asp
     }
 }
 
-/// Asks one question, and appends its answer. An answer lies on the stack here alone, and not in each
-/// step of the walk.
+/// Asks one question, and appends its answer. An answer is on the stack only here, and not in each step
+/// of the walk.
 #[inline(never)]
 fn asked<B: Bench>(asking: &Asking<'_, B>, ask: &Ask, answers: Answers) -> Result<Walk, NoMemory>
     requires few { ask.now.event + 1 < 2 ^ 32 }
@@ -175,7 +177,7 @@ fn asked<B: Bench>(asking: &Asking<'_, B>, ask: &Ask, answers: Answers) -> Resul
     }
 }
 
-/// Appends the answer of an event behind those of earlier ones.
+/// Appends the answer of an event after those of earlier ones.
 #[tactic(auto, using(crate::proofs::GatherLemmas::rising_push))]
 fn noted(event: u32, answer: Answer, before: Answers) -> Result<Walk, NoMemory>
     requires few { event + 1 < 2 ^ 32 }

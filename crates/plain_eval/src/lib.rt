@@ -1,6 +1,6 @@
-//! Sessions on one thread: `eval` is the value of a phrase for the answers that are given, by
-//! recursion over the phrase. It stands on no store, no machine and no stack of its own, so it is
-//! what every other way to run a session is compared with.
+//! Sessions on one thread: `eval` is the value of a phrase for the answers that are given, by recursion
+//! over the phrase. It uses no store, no machine and no stack of its own, so it is what every other way
+//! to run a session is compared with.
 //!
 //! The value is `value_of` of the crate `session_model` (POST 2019, the evidence of a phrase).
 #![tactic(auto)]

@@ -8,6 +8,7 @@ ghost use Rattle.session_model.specs.RightRecord.{IsRightRecord};
 ghost use Rattle.session_model.specs.Session.{Session};
 
 use bench_trait::Bench;
+use event_system::{order_law, trace_law};
 
 /// A record that is right where a session is run in the order of its numbers is right over every order
 /// of events: rising numbers are one of the orders in which they may happen.
@@ -15,4 +16,7 @@ pub fn rising_records_are_right<B: Bench>()
     ensures { (bench : B) (artefacts : List Artefact) (session : Session) (keys : List (List ℕ × List ℕ)) (found : Record) →
         IsRisingRecord (B.gives bench artefacts) (B.fails bench artefacts) session keys found →
         IsRightRecord (B.gives bench artefacts) (B.fails bench artefacts) session keys found }
-{}
+{
+    order_law();
+    trace_law();
+}

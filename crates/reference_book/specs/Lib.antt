@@ -1,2 +1,4 @@
 pub mod Same
 pub mod References
+pub mod Leaves
+pub mod Order

@@ -3,14 +3,21 @@
 use Rattle.std.proofs.Common.{◌≡◌, ◌+◌, ◌-◌, ◌≤◌, ◌<◌, ◌++◌, ℕ, List, [], ◌∷◌, Option, Some, None, refl, ap, ◌∙◌, sym, append_assoc, arith, codes, decimal, eqb, ltb, cond}
 use Rattle.std.proofs.lemmas.Bool.{cond-true, cond-false, ne_eqb, eq-eqb, lt-ltb, le-ltb}
 use Rattle.std.proofs.lemmas.List.{append-nil}
-use Rattle.phrase_tree.specs.Term.{Term, cpy, sig, hsh, usm, kim, at, chain, seq, par}
+use Rattle.phrase_tree.specs.Term.{Term, leaf, at, chain, seq, par}
 use Rattle.phrase_tree.specs.Numbering.{event_count}
-use Rattle.phrase_tree.specs.Events.{Event, copies, measures, measures_at, seals, hashes, requests, replies, splits, joins, event, events_of}
+use Rattle.phrase_tree.specs.Events.{Event, requests, replies, splits, joins, event, events_of, leaf_kind}
 use Rattle.event_system.specs.declared.direct.Needs.{Needs}
 use Rattle.event_system.specs.Needs.{only, needs_behind, needs_of}
-use Rattle.event_system.proofs.OrderLaws.{some_event}
 use Rattle.report_text.specs.Events.{event_line, event_lines, events_text}
 use Rattle.report_text.specs.Walk.{lines_behind}
+
+-- a phrase has an event
+some_event : (phrase : Term) → 0 < event_count phrase
+some_event (leaf form) = omega arith
+some_event (at asked body) = omega arith
+some_event (chain left right) = omega (arith, some_event left)
+some_event (seq split left right) = omega arith
+some_event (par split left right) = omega arith
 
 -- the needs of each event of a part of a phrase that starts at `i`
 record Gives (needs : ℕ → Needs) (entry : Option ℕ) (phrase : Term) (i : ℕ) : Type 0 where
@@ -70,11 +77,7 @@ only_at : (m n : ℕ) → m ≡ n → only (Some m) ≡ only (Some n)
 only_at m n e = ap (λ k. only (Some k)) e
 
 walk_is : (needs : ℕ → Needs) (entry : Option ℕ) (phrase : Term) (place : List ℕ) (i : ℕ) → Gives needs entry phrase i → lines_behind entry phrase place i ≡ event_lines needs (events_of phrase place i)
-walk_is needs entry cpy place i g = one_line needs (event i copies place) (only entry) (g.each i (omega arith) (omega arith))
-walk_is needs entry sig place i g = one_line needs (event i seals place) (only entry) (g.each i (omega arith) (omega arith))
-walk_is needs entry hsh place i g = one_line needs (event i hashes place) (only entry) (g.each i (omega arith) (omega arith))
-walk_is needs entry (usm asp) place i g = one_line needs (event i (measures asp) place) (only entry) (g.each i (omega arith) (omega arith))
-walk_is needs entry (kim target asp) place i g = one_line needs (event i (measures_at target asp) place) (only entry) (g.each i (omega arith) (omega arith))
+walk_is needs entry (leaf form) place i g = one_line needs (event i (leaf_kind form) place) (only entry) (g.each i (omega arith) (omega arith))
 walk_is needs entry (at asked body) place i g =
     let count = event_count body in
     let m = i + 1 + count in

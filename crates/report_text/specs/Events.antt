@@ -3,10 +3,10 @@
 use Rattle.std.specs.Prelude.{ℕ, List, [], ◌∷◌, ◌++◌, Option, Some, None, codes, decimal}
 use Rattle.phrase_tree.specs.Term.{Term}
 use Rattle.phrase_tree.specs.Numbering.{event_count}
-use Rattle.phrase_tree.specs.Events.{Kind, copies, measures, measures_at, seals, hashes, requests, replies, splits, joins, Event, events_of}
+use Rattle.phrase_tree.specs.Events.{Kind, copies, measures, measures_at, seals, hashes, empties, requests, replies, splits, joins, Event, events_of}
 use Rattle.event_system.specs.declared.direct.Needs.{Needs}
 use Rattle.event_system.specs.Needs.{needs_of}
-use Rattle.avm_code.specs.Text.{asp_text}
+use Rattle.phrase_tree.specs.Text.{asp_text}
 
 -- what happens at an event: a word, and the measurement or the place where there is one
 abbrev pub kind_text : Kind → List ℕ
@@ -15,6 +15,7 @@ kind_text (measures asp) = codes "usm " ++ asp_text asp
 kind_text (measures_at target asp) = codes "kim " ++ (target ++ 32 ∷ asp_text asp)
 kind_text seals = codes "sig"
 kind_text hashes = codes "hsh"
+kind_text empties = codes "nul"
 kind_text (requests asked) = codes "req " ++ asked
 kind_text (replies asked) = codes "rpl " ++ asked
 kind_text splits = codes "split"

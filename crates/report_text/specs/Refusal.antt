@@ -5,11 +5,13 @@ use Rattle.phrase_reader.specs.declared.refusal.Kind.{Kind}
 use Rattle.phrase_reader.specs.declared.refusal.Kind.TheVariants as kinds
 use Rattle.place_check.specs.declared.entry.PlaceKind.{PlaceKind}
 use Rattle.place_check.specs.declared.entry.PlaceKind.TheVariants.{UnknownPlace, MayNotAsk, NotOffered, MayNotSee}
+use Rattle.evidence_codec.specs.declared.fault.BadKind.{BadKind}
+use Rattle.evidence_codec.specs.declared.fault.BadKind.TheVariants as bad_kinds
 use Rattle.job_values.specs.Words.{kind_word, path_text}
 use Rattle.job_reader.specs.declared.refusal.JobError.{JobError}
 use Rattle.job_reader.specs.declared.refusal.JobError.TheVariants as errors
 use Rattle.report_text.specs.declared.refusal.Refusal.{Refusal}
-use Rattle.report_text.specs.declared.refusal.Refusal.TheVariants.{Words, ReadFault, TooLong, Job, NoMemory}
+use Rattle.report_text.specs.declared.refusal.Refusal.TheVariants.{Words, Unbuilt, ReadFault, TooLong, Job, NoReference, BadBundle, BadShape, NoMemory}
 
 -- the word for why a phrase's text is refused
 abbrev pub refusal_word : Kind → List ℕ
@@ -29,6 +31,14 @@ place_word UnknownPlace = codes "unknown-place"
 place_word MayNotAsk = codes "may-not-ask"
 place_word NotOffered = codes "not-offered"
 place_word MayNotSee = codes "may-not-see"
+
+-- the word for what is wrong with bytes that are no bundle
+abbrev pub bundle_word : BadKind → List ℕ
+bundle_word bad_kinds.Short = codes "short"
+bundle_word bad_kinds.Tag = codes "tag"
+bundle_word bad_kinds.Length = codes "length"
+bundle_word bad_kinds.Rest = codes "rest"
+bundle_word bad_kinds.Deep = codes "deep"
 
 -- the end of a line: one number, two numbers, or two numbers and a word
 abbrev pub one_number : ℕ → List ℕ
@@ -57,7 +67,11 @@ job_line errors.NoMemory = codes "error: no memory\n"
 -- the line of a refusal
 abbrev pub line_of : Refusal → List ℕ
 line_of Words = codes "error: words\n"
+line_of Unbuilt = codes "error: unbuilt\n"
 line_of ReadFault = codes "error: read fault\n"
 line_of TooLong = codes "error: input too long\n"
 line_of (Job error) = job_line error
+line_of (NoReference event) = codes "error: no reference " ++ one_number event
+line_of (BadBundle at kind) = codes "error: bad bundle at " ++ (decimal at ++ (32 ∷ (bundle_word kind ++ 10 ∷ [])))
+line_of (BadShape node) = codes "error: bad bundle shape " ++ one_number node
 line_of NoMemory = codes "error: no memory\n"

@@ -1,19 +1,15 @@
 -- How the lines come in one walk down the phrase. Nothing public names this: that the lines are those of
 -- the report is a law in proofs/.
 use Rattle.std.specs.Prelude.{◌+◌, ◌-◌, ◌++◌, ℕ, List, Option, Some}
-use Rattle.phrase_tree.specs.Term.{Term, cpy, sig, hsh, usm, kim, at, chain, seq, par}
+use Rattle.phrase_tree.specs.Term.{Term, leaf, at, chain, seq, par}
 use Rattle.phrase_tree.specs.Numbering.{event_count}
-use Rattle.phrase_tree.specs.Events.{copies, measures, measures_at, seals, hashes, requests, replies, splits, joins, event}
+use Rattle.phrase_tree.specs.Events.{leaf_kind, requests, replies, splits, joins, event}
 use Rattle.event_system.specs.Needs.{only}
 use Rattle.report_text.specs.Events.{event_line}
 
 -- the lines of a part of a phrase that starts at `i`, entered from an event or from none
 abbrev pub lines_behind : Option ℕ → Term → List ℕ → ℕ → List ℕ
-lines_behind entry cpy place i = event_line (event i copies place) (only entry)
-lines_behind entry sig place i = event_line (event i seals place) (only entry)
-lines_behind entry hsh place i = event_line (event i hashes place) (only entry)
-lines_behind entry (usm asp) place i = event_line (event i (measures asp) place) (only entry)
-lines_behind entry (kim target asp) place i = event_line (event i (measures_at target asp) place) (only entry)
+lines_behind entry (leaf form) place i = event_line (event i (leaf_kind form) place) (only entry)
 lines_behind entry (at asked body) place i =
     event_line (event i (requests asked) place) (only entry) ++ (lines_behind (Some i) body asked (i + 1) ++ event_line (event (i + 1 + event_count body) (replies asked) place) (only (Some (i + 1 + event_count body - 1))))
 lines_behind entry (chain left right) place i =

@@ -6,10 +6,9 @@ ghost use Rattle.report_text.specs.Events.{events_text};
 ghost use Rattle.report_text.specs.Walk.{lines_behind};
 
 use crate::line::{Spot, push_asking, push_measuring, push_plain, push_targeted};
-use avm_code::{push_bytes, push_decimal};
 use byte_ports::Bytes;
-use event_system::Needs;
-use phrase_tree::{NoMemory, Phrase, Place};
+use event_system::{Needs, needs_law};
+use phrase_tree::{NoMemory, Phrase, Place, push_bytes, push_decimal};
 use std::alloc::Global;
 
 fn only(first: Option<u32>) -> Needs
@@ -50,6 +49,7 @@ fn push_events(
         Phrase::Cpy => push_plain(text, &here, b"cpy"),
         Phrase::Sig => push_plain(text, &here, b"sig"),
         Phrase::Hsh => push_plain(text, &here, b"hsh"),
+        Phrase::Nul => push_plain(text, &here, b"nul"),
         Phrase::Usm(asp) => push_measuring(text, &here, asp),
         Phrase::Kim(target, asp) => push_targeted(text, &here, target, asp),
         Phrase::At(asked, body) => {
@@ -100,8 +100,8 @@ fn report(alloc: Global, session: u32, phrase: &Phrase, place: Place) -> Result<
 
 /// The report of the events of a session's phrase, which a place runs: a line with their count, and a
 /// line for each event with its number, what happens, where, and its direct predecessors. An error is
-/// want of memory. Takes time linear in the text: one walk down the phrase gives events and
-/// predecessors.
+/// want of memory. Takes time linear in the text: events and predecessors are found in one walk down
+/// the phrase.
 #[tactic(auto, using(crate::proofs::Lines::report_is))]
 pub fn events_text(
     alloc: Global,
@@ -113,5 +113,6 @@ pub fn events_text(
     ensures text { IfOk result (λ text. text ≡ events_text session (term phrase.now) place) }
     ensures direct { (number : ℕ) → AreNeeds (term phrase.now) number (needs_of (term phrase.now) number) }
 {
+    needs_law();
     report(alloc, session, phrase, place)
 }

@@ -1,10 +1,9 @@
 ghost use Rattle.std.specs.Prelude.{◌≡◌, ◌+◌, ◌<◌, ◌^◌, ◌++◌, ◌∷◌, [], codes, decimal, IfOk, OnOk};
-ghost use Rattle.avm_code.specs.Text.{asp_text};
+ghost use Rattle.phrase_tree.specs.Text.{asp_text};
 ghost use Rattle.report_text.specs.Events.{first_text, second_text, after_text, line_text};
 
-use avm_code::{push_asp, push_bytes, push_decimal};
 use event_system::Needs;
-use phrase_tree::{Asp, NoMemory, Place};
+use phrase_tree::{Asp, NoMemory, Place, push_asp, push_bytes, push_decimal};
 
 /// An event without what happens: its number, its place, and its direct predecessors.
 #[derive(Clone, Copy, Debug, PartialEq, Eq)]

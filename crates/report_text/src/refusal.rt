@@ -1,9 +1,11 @@
 ghost use Rattle.std.specs.Prelude.{◌≡◌, ◌+◌, ◌≤◌, ◌++◌, ◌∷◌, [], codes, decimal, length};
 ghost use Rattle.job_values.specs.Words.{field_text, field_word, index_text, item_text, kind_word, section_text, section_word};
 ghost use Rattle.job_reader.specs.declared.refusal.JobError.TheVariants as errors;
-ghost use Rattle.report_text.specs.Refusal.{job_line, line_of, numbers_and_word, one_number, place_word, refusal_word, two_numbers};
+ghost use Rattle.report_text.specs.declared.refusal.Refusal.TheVariants as refusals;
+ghost use Rattle.report_text.specs.Refusal.{bundle_word, job_line, line_of, numbers_and_word, one_number, place_word, refusal_word, two_numbers};
 
 use crate::inline_line::Line;
+use evidence_codec::BadKind;
 use job_reader::JobError;
 use job_values::{Field, FieldAt, FieldKind, Section};
 use phrase_reader::Kind;
@@ -12,14 +14,22 @@ use place_check::PlaceKind;
 /// Why nothing was reported.
 #[derive(Clone, Copy, Debug, PartialEq, Eq)]
 pub enum Refusal {
-    /// The words are no command.
+    /// The words are not a command.
     Words,
+    /// The command isn't built.
+    Unbuilt,
     /// The source met a fault.
     ReadFault,
     /// The input is longer than a job may be.
     TooLong,
     /// The job is refused.
     Job(JobError),
+    /// The least event whose measurement has no reference.
+    NoReference { event: u32 },
+    /// The bytes are not a bundle: the first fault from the left.
+    BadBundle { at: u32, kind: BadKind },
+    /// The bundle's value doesn't have the phrase's shape: the first node that differs.
+    BadShape { node: u32 },
     NoMemory,
 }
 
@@ -29,9 +39,13 @@ pub fn refusal_line(refusal: &Refusal) -> Line
 {
     match refusal {
         Refusal::Words => Line::of(b"error: words\n"),
+        Refusal::Unbuilt => Line::of(b"error: unbuilt\n"),
         Refusal::ReadFault => Line::of(b"error: read fault\n"),
         Refusal::TooLong => Line::of(b"error: input too long\n"),
         Refusal::Job(error) => job_line(error),
+        Refusal::NoReference { event } => number_line(b"error: no reference ", *event),
+        Refusal::BadBundle { at, kind } => bundle_line(*at, *kind),
+        Refusal::BadShape { node } => number_line(b"error: bad bundle shape ", *node),
         Refusal::NoMemory => Line::of(b"error: no memory\n"),
     }
 }
@@ -53,7 +67,7 @@ fn job_line(error: &JobError) -> Line
         JobError::RepeatedReference { first, second } => {
             pair_line(b"error: repeated reference ", *first, *second)
         }
-        JobError::BadRoot { session } => root_line(*session),
+        JobError::BadRoot { session } => number_line(b"error: bad root ", *session),
         JobError::RepeatedNonce { first, second } => pair_line(
             b"error: repeated nonce ",
             *first,
@@ -72,16 +86,43 @@ fn job_line(error: &JobError) -> Line
     }
 }
 
-fn root_line(session: u32) -> Line
-    ensures { result ≡ codes "error: bad root " ++ one_number session }
+/// A line with a number after a text.
+fn number_line(text: &[u8], number: u32) -> Line
+    requires { length text.now ≤ 64 }
+    ensures { result ≡ text.now ++ one_number number }
 {
-    let mut line = Line::of(b"error: bad root ");
-    line.push_number(session);
+    let mut line = Line::of(text);
+    line.push_number(number);
     line.push(b"\n");
     line
 }
 
-/// A line with two numbers behind a text.
+/// The line for bytes that are not a bundle.
+fn bundle_line(at: u32, kind: BadKind) -> Line
+    ensures { result ≡ line_of (refusals.BadBundle at kind) }
+{
+    let mut line = Line::of(b"error: bad bundle at ");
+    line.push_number(at);
+    line.push(b" ");
+    line.push(bundle_word(kind));
+    line.push(b"\n");
+    line
+}
+
+fn bundle_word(kind: BadKind) -> &'static [u8]
+    ensures word { result.now ≡ bundle_word kind }
+    ensures few { length result.now ≤ 16 }
+{
+    match kind {
+        BadKind::Short => b"short",
+        BadKind::Tag => b"tag",
+        BadKind::Length => b"length",
+        BadKind::Rest => b"rest",
+        BadKind::Deep => b"deep",
+    }
+}
+
+/// A line with two numbers after a text.
 fn pair_line(text: &[u8], first: u32, second: u32) -> Line
     requires { length text.now ≤ 64 }
     ensures { result ≡ text.now ++ two_numbers first second }
@@ -94,7 +135,7 @@ fn pair_line(text: &[u8], first: u32, second: u32) -> Line
     line
 }
 
-/// A line with two numbers and a word behind a text.
+/// A line with two numbers and a word after a text.
 fn word_line(text: &[u8], first: u32, second: u32, word: &[u8]) -> Line
     requires text { length text.now ≤ 64 }
     requires word { length word.now ≤ 16 }
@@ -139,7 +180,7 @@ fn place_word(kind: PlaceKind) -> &'static [u8]
     }
 }
 
-/// The line of a fault of form, with the place where it stands.
+/// The line of a fault of form, with its path.
 fn field_line(at: &FieldAt, kind: FieldKind) -> Line
     ensures { result ≡ job_line (errors.BadJob at.now kind) }
 {
@@ -201,7 +242,7 @@ fn push_section(line: &mut Line, section: Section, index: u32)
     }
 }
 
-/// Appends a field, where there is one.
+/// Appends a field, if there is one.
 fn push_field(line: &mut Line, field: Option<Field>)
     requires { length line.old ≤ 150 }
     ensures text { line.new ≡ line.old ++ field_text field }
@@ -214,7 +255,7 @@ fn push_field(line: &mut Line, field: Option<Field>)
     line.push(field_bytes(field));
 }
 
-/// Appends the index of an item of a field, where there is one.
+/// Appends the index of an item of a field, if there is one.
 fn push_item(line: &mut Line, item: Option<u32>)
     requires { length line.old ≤ 200 }
     ensures text { line.new ≡ line.old ++ item_text item }

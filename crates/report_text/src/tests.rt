@@ -3,6 +3,7 @@ ghost use Rattle.phrase_tree.specs.Term.{term};
 ghost use Rattle.phrase_tree.specs.Numbering.{IsSized};
 
 use super::*;
+use evidence_codec::BadKind;
 use phrase_tree::{Arg, Args, Asp, Name, Phrase, Place, Split};
 use std::alloc::{AllocError, Global};
 use std::test::Fail;
@@ -91,4 +92,37 @@ fn events_are_reported_with_their_direct_predecessors(rt: HostRuntime) -> Result
         "session 1 events 5\nevent 0 split at q\nevent 1 usm scan at q after 0\nevent 2 kim q bank scan 7 at q after 1\nevent 3 join at q after 2\nevent 4 hsh at q after 3\n";
     assert_eq!(rt; text.items(), lines.as_bytes());
     Ok(())
+}
+
+// The lines are those of another program.
+#[test]
+fn refusals_of_appraisals_have_their_lines(rt: HostRuntime) {
+    for (refusal, line) in [
+        (Refusal::Unbuilt, "error: unbuilt\n"),
+        (Refusal::NoReference { event: 0 }, "error: no reference 0\n"),
+        (
+            bad_bundle(34, BadKind::Short),
+            "error: bad bundle at 34 short\n",
+        ),
+        (bad_bundle(4, BadKind::Tag), "error: bad bundle at 4 tag\n"),
+        (
+            bad_bundle(25, BadKind::Length),
+            "error: bad bundle at 25 length\n",
+        ),
+        (
+            bad_bundle(26, BadKind::Rest),
+            "error: bad bundle at 26 rest\n",
+        ),
+        (
+            bad_bundle(7184, BadKind::Deep),
+            "error: bad bundle at 7184 deep\n",
+        ),
+        (Refusal::BadShape { node: 0 }, "error: bad bundle shape 0\n"),
+    ] {
+        assert_eq!(rt; refusal_line(&refusal).bytes(), line.as_bytes());
+    }
+}
+
+fn bad_bundle(at: u32, kind: BadKind) -> Refusal {
+    Refusal::BadBundle { at, kind }
 }

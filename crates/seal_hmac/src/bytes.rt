@@ -34,8 +34,8 @@ pub(crate) fn masked(mask: u8, block: [u8; 64]) -> [u8; 64]
 
 /// Whether these bytes are the same.
 ///
-/// It looks at every byte, also behind the first that differs: an early end would take the longer
-/// the more of a forged code is right, and so tell a forger byte by byte what the right one is.
+/// It looks at every byte, even after the first that differs: with an early exit, the time taken would
+/// grow with the part of a forged code that is right, and so tell a forger the right code byte by byte.
 pub fn same(a: &[u8; 32], b: &[u8; 32]) -> bool
     ensures { IsTrue result ↔ (a.now ≡ b.now) }
 {

@@ -37,7 +37,7 @@ fn copy_of(hasher: &Sha256) -> Sha256
 }
 
 impl Mac {
-    /// Keyed with these bytes, of which any number will do, and fed nothing.
+    /// Keyed with these bytes, of any number, and fed nothing yet.
     pub fn new(key: &[u8]) -> Mac
         ensures { Feeds key.now [] result }
     {

@@ -37,7 +37,7 @@ impl Model for Key {
 }
 
 impl Key {
-    /// The key of these bytes; none exactly where they are not 16 to 128.
+    /// The key of these bytes; none exactly when they are not 16 to 128.
     pub fn read(bytes: &[u8]) -> Option<Key>
         ensures { SomeIff result (IsKey bytes.now) bytes.now }
     {

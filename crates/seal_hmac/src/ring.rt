@@ -35,8 +35,7 @@ impl KeyRing {
         &self.pairs
     }
 
-    /// The first key of this place; none exactly where the ring has none. It looks at each pair in
-    /// turn.
+    /// The first key of this place; none exactly when the ring has none. It checks each pair in turn.
     pub fn find(&self, place: Place) -> Option<&Key>
         ensures { option_copied result ≡ key_of self.now place }
     {

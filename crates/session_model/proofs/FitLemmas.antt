@@ -1,6 +1,6 @@
 -- The value of a phrase fits its shape: both follow one recursion over the phrase.
 use Rattle.std.proofs.Common.{◌+◌, ℕ, List, Bool, true, false, refl}
-use Rattle.phrase_tree.specs.Term.{Term, cpy, sig, hsh, usm, kim, at, chain, seq, par}
+use Rattle.phrase_tree.specs.Term.{Term, cpy, sig, hsh, nul, usm, kim, leaf, at, chain, seq, par}
 use Rattle.phrase_tree.specs.Numbering.{event_count}
 use Rattle.evidence_types.specs.Evidence.{Evidence, nonce}
 use Rattle.evidence_types.specs.Shape.{Fits, Form, arm_shape, shape_at, shape_from, the_nonce}
@@ -12,11 +12,12 @@ part_fits true before shape h = h
 part_fits false before shape h = tt
 
 pub value_fits : (phrase : Term) (place : List ℕ) (i : ℕ) (before : Evidence) (shape : Form) (from : Makings) → Fits before shape → Fits (value_of phrase place i before from) (shape_from phrase place i shape)
-value_fits cpy place i before shape from h = h
-value_fits sig place i before shape from h = (refl, h)
-value_fits hsh place i before shape from h = refl
-value_fits (usm asp) place i before shape from h = (refl, h)
-value_fits (kim target asp) place i before shape from h = (refl, h)
+value_fits (leaf cpy) place i before shape from h = h
+value_fits (leaf sig) place i before shape from h = (refl, h)
+value_fits (leaf hsh) place i before shape from h = refl
+value_fits (leaf nul) place i before shape from h = tt
+value_fits (leaf (usm asp)) place i before shape from h = (refl, h)
+value_fits (leaf (kim target asp)) place i before shape from h = (refl, h)
 value_fits (at asked body) place i before shape from h = value_fits body asked (i + 1) before shape from h
 value_fits (chain left right) place i before shape from h =
     value_fits right place (i + event_count left) (value_of left place i before from) (shape_from left place i shape) from (value_fits left place i before shape from h)

@@ -1,4 +1,5 @@
 pub mod Value
+pub mod Short
 pub mod Session
 pub mod Record
 pub mod RightRecord

@@ -1,6 +1,6 @@
 -- The value of a phrase (POST 2019, the evidence of a phrase; seals and hashes are this project's own).
 use Rattle.std.specs.Prelude.{◌+◌, ℕ, Bool, List, if◌then◌else◌}
-use Rattle.phrase_tree.specs.Term.{Term, cpy, sig, hsh, usm, kim, at, chain, seq, par}
+use Rattle.phrase_tree.specs.Term.{Term, Leaf, cpy, sig, hsh, nul, usm, kim, leaf, at, chain, seq, par}
 use Rattle.phrase_tree.specs.Numbering.{event_count}
 use Rattle.evidence_types.specs.Answers.{answer_at}
 use Rattle.evidence_types.specs.Bytes.{encoding}
@@ -18,14 +18,19 @@ pub record Makings : Type 0 where
 abbrev pub part : Bool → Evidence → Evidence
 part all before = if all then before else empty
 
+-- the value of a leaf that a place runs under a number, on the evidence before it
+abbrev pub leaf_value : Leaf → List ℕ → ℕ → Evidence → Makings → Evidence
+leaf_value cpy place i before from = before
+leaf_value sig place i before from =
+    seal i (seal_of (key_at from.keys place) place from.nonce i (encoding before)) before
+leaf_value hsh place i before from = hash i (hash_of (encoding before))
+leaf_value nul place i before from = empty
+leaf_value (usm asp) place i before from = measured i (answer_at from.answers i) before
+leaf_value (kim target asp) place i before from = measured_at i (answer_at from.answers i) before
+
 -- the value of a phrase that a place runs from a number on, on the evidence before it
 abbrev pub value_of : Term → List ℕ → ℕ → Evidence → Makings → Evidence
-value_of cpy place i before from = before
-value_of sig place i before from =
-    seal i (seal_of (key_at from.keys place) place from.nonce i (encoding before)) before
-value_of hsh place i before from = hash i (hash_of (encoding before))
-value_of (usm asp) place i before from = measured i (answer_at from.answers i) before
-value_of (kim target asp) place i before from = measured_at i (answer_at from.answers i) before
+value_of (leaf form) place i before from = leaf_value form place i before from
 value_of (at asked body) place i before from = value_of body asked (i + 1) before from
 value_of (chain left right) place i before from =
     value_of right place (i + event_count left) (value_of left place i before from) from

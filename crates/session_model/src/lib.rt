@@ -5,4 +5,4 @@
 
 mod laws;
 
-pub use laws::value_fits_shape;
+pub use laws::{value_fits_shape, value_is_within};

@@ -1,7 +1,7 @@
 -- In each block at most one configuration can move.
 use Rattle.std.proofs.Common.{◌≡◌, ℕ, ◌+◌, ◌≤◌, List, [], ◌∷◌, ◌++◌, refl, sym, ap, subst, arith}
 use Rattle.std.specs.Prelude.{Bool, true, false, Option, None, Some, if◌then◌else◌}
-use Rattle.phrase_tree.specs.Term.{Term, cpy, sig, hsh, usm, kim, at, chain, seq, par}
+use Rattle.phrase_tree.specs.Term.{Term, leaf, at, chain, seq, par}
 use Rattle.phrase_tree.specs.Numbering.{event_count}
 use Rattle.evidence_types.specs.Evidence.{Evidence, nonce}
 use Rattle.session_model.specs.Session.{Session}
@@ -36,11 +36,7 @@ abbrev pub named : Configuration → ℕ → ℕ
 named c n = titles c n + posts c n
 
 start_named : (phrase : Term) (i : ℕ) (before : Evidence) (n : ℕ) → named (start phrase i before) n ≡ 0
-start_named cpy i before n = refl
-start_named sig i before n = refl
-start_named hsh i before n = refl
-start_named (usm asp) i before n = refl
-start_named (kim target asp) i before n = refl
+start_named (leaf form) i before n = refl
 start_named (at place body) i before n = refl
 start_named (chain left right) i before n = start_named left i before n
 start_named (seq split left right) i before n = refl
@@ -70,11 +66,8 @@ Names place c effect d = (n : ℕ) → named d n ≤ named c n + happening effec
 
 names_law : (from : Makings) → IsLaw from Names
 names_law from = record {
-  copies = λ place i before n. omega arith;
-  signs = λ place i before n. omega arith;
-  hashes = λ place i before n. omega arith;
-  asks_own = λ place asp i before n. omega arith;
-  asks_target = λ place target asp i before n. omega arith;
+  runs = λ place form i before other n. omega arith;
+  asks_for = λ place form i before measured n. omega arith;
   posts = λ place asked_place body i before n. omega arith;
   splits = λ place split left right i before n. omega (arith, start_named left (i + 1) (part split.left before) n);
   forks = λ place split left right i before n. omega (arith, start_named left (i + 1) (part split.left before) n, start_named right (i + 1 + event_count left) (part split.right before) n);
@@ -132,11 +125,7 @@ movers_append block [] ys = omega arith
 movers_append block (x ∷ xs) ys = omega (arith, movers_append block xs ys)
 
 movers_phrase : (own : Block) (phrase : Term) (i : ℕ) (block : Block) → movers_in block (ready_phrase own phrase i) ≤ same_block own block
-movers_phrase own cpy i block = omega arith
-movers_phrase own sig i block = omega arith
-movers_phrase own hsh i block = omega arith
-movers_phrase own (usm asp) i block = omega arith
-movers_phrase own (kim target asp) i block = omega arith
+movers_phrase own (leaf form) i block = omega arith
 movers_phrase own (at place body) i block = omega arith
 movers_phrase own (chain left right) i block = omega arith
 movers_phrase own (seq split left right) i block = omega arith

@@ -1,7 +1,7 @@
 -- How many moves a configuration may still make, and how long a history can be.
 use Rattle.std.proofs.Common.{◌≡◌, ℕ, suc, ◌+◌, ◌*◌, ◌≤◌, List, [], ◌∷◌, length, refl, sym, ap, subst, arith}
 use Rattle.std.specs.Prelude.{Bool, true, false, Option, None, Some}
-use Rattle.phrase_tree.specs.Term.{Term, cpy, sig, hsh, usm, kim, at, chain, seq, par}
+use Rattle.phrase_tree.specs.Term.{Term, is_measurement, leaf, at, chain, seq, par}
 use Rattle.phrase_tree.specs.Numbering.{event_count}
 use Rattle.evidence_types.specs.Evidence.{Evidence, nonce}
 use Rattle.session_model.specs.Session.{Session}
@@ -13,13 +13,18 @@ use Rattle.session_runs.specs.History.{further, standing_after}
 use Rattle.session_runs.proofs.Induction.{IsLaw}
 use Rattle.session_runs.proofs.EntryLaws.{Onward, moved, root_ended, faulted, starves, onward, after_state, after_configuration, some_is}
 
+-- the moves of a leaf: a measurement is asked for, and answered
+abbrev moves_by : Bool → ℕ
+moves_by true = 2
+moves_by false = 1
+
+most_by : (measured : Bool) → moves_by measured ≤ 2
+most_by true = omega arith
+most_by false = omega arith
+
 -- the moves of a phrase, from its first to its last
 abbrev pub cost : Term → ℕ
-cost cpy = 1
-cost sig = 1
-cost hsh = 1
-cost (usm asp) = 2
-cost (kim target asp) = 2
+cost (leaf form) = moves_by (is_measurement form)
 cost (at place body) = 4 + cost body
 cost (chain left right) = cost left + cost right
 cost (seq split left right) = 3 + (cost left + cost right)
@@ -42,22 +47,14 @@ moves_left (both_arms i last left right ended) = moves_left left + moves_left ri
 moves_left (finished result) = 0
 
 cost_most : (phrase : Term) → cost phrase ≤ 2 * event_count phrase
-cost_most cpy = omega arith
-cost_most sig = omega arith
-cost_most hsh = omega arith
-cost_most (usm asp) = omega arith
-cost_most (kim target asp) = omega arith
+cost_most (leaf form) = most_by (is_measurement form)
 cost_most (at place body) = omega (arith, cost_most body)
 cost_most (chain left right) = omega (arith, cost_most left, cost_most right)
 cost_most (seq split left right) = omega (arith, cost_most left, cost_most right)
 cost_most (par split left right) = omega (arith, cost_most left, cost_most right)
 
 start_left : (phrase : Term) (i : ℕ) (before : Evidence) → moves_left (start phrase i before) ≡ cost phrase
-start_left cpy i before = refl
-start_left sig i before = refl
-start_left hsh i before = refl
-start_left (usm asp) i before = refl
-start_left (kim target asp) i before = refl
+start_left (leaf form) i before = refl
 start_left (at place body) i before = refl
 start_left (chain left right) i before = ap (λ n. n + cost right) (start_left left i before)
 start_left (seq split left right) i before = refl
@@ -80,11 +77,8 @@ Spends place c effect d = moves_left d + 1 ≡ moves_left c
 
 spends : (from : Makings) → IsLaw from Spends
 spends from = record {
-  copies = λ place i before. refl;
-  signs = λ place i before. refl;
-  hashes = λ place i before. refl;
-  asks_own = λ place asp i before. refl;
-  asks_target = λ place target asp i before. refl;
+  runs = λ place form i before other. sym (ap moves_by other);
+  asks_for = λ place form i before measured. sym (ap moves_by measured);
   posts = λ place asked_place body i before. omega arith;
   splits = λ place split left right i before. omega (arith, start_left left (i + 1) (part split.left before));
   forks = λ place split left right i before. omega (arith, start_left left (i + 1) (part split.left before), start_left right (i + 1 + event_count left) (part split.right before));

@@ -2,7 +2,7 @@
 use Rattle.std.proofs.Common.{◌≡◌, ℕ, List, refl, sym, ap, subst}
 use Rattle.std.specs.Prelude.{Bool, true, false, Option, None, Some, nat_eq, if◌then◌else◌}
 use Rattle.std.proofs.lemmas.Bool.{eqb-true}
-use Rattle.phrase_tree.specs.Term.{Term, cpy, sig, hsh, usm, kim, at, chain, seq, par}
+use Rattle.phrase_tree.specs.Term.{Term, is_measurement, leaf, at, chain, seq, par}
 use Rattle.evidence_types.specs.Evidence.{Evidence, seq_pair, par_pair}
 use Rattle.bench_trait.specs.declared.bench.BenchFault.{BenchFault}
 use Rattle.session_model.specs.Session.{Session}
@@ -10,7 +10,7 @@ use Rattle.session_model.specs.Value.{Makings}
 use Rattle.session_runs.specs.Configuration.{Configuration, todo, asked, posted, remote, first, left_arm, right_arm, both_arms, finished, start, measurement, once_finished, followed_by}
 use Rattle.session_runs.specs.Moves.{Step, run as run_step, ask as ask_step, Deed, in_block, answer, delivery, Effect, silent, happens, sends, asks, answers, starts, Moved, on_run, on_answer, on_delivery, on_step, only_if, inside, or_else, todo_moves, own_moves, block_moves, inner_moves}
 use Rattle.session_runs.specs.Standing.{root, of, Move, run, ask, deliver, Entry, opened, played, answered, failed, starved, State, is_open, is_done, has_failed, has_starved, Standing, makings, front, without_ask, is_in_flight, after, made, delivered, played_on, entered, where_open, next}
-use Rattle.session_runs.proofs.Induction.{Made, IsLaw, is_this, no_move, on_run_law, on_ask_law, if_law, only_if_law, inside_law, or_else_law, once_finished_law, block_law, own_law, inner_law}
+use Rattle.session_runs.proofs.Induction.{Made, IsLaw, is_this, no_move, on_run_law, on_ask_law, if_law, only_if_law, inside_law, or_else_law, once_finished_law, block_law, own_law, inner_law, either_law}
 
 pub some_is : (A : Type 0) (x y : A) → ◌≡◌ {A = Option A} (Some x) (Some y) → x ≡ y
 some_is A x y e = cc
@@ -28,11 +28,7 @@ FitsDeed (answer n bytes) effect = effect ≡ answers n bytes
 FitsDeed (delivery n) effect = effect ≡ starts n
 
 todo_effect : (from : Makings) (place : List ℕ) (phrase : Term) (i : ℕ) (before : Evidence) (step : Step) (m : Made) → todo_moves from place phrase i before step ≡ Some m → IsOfBlock m.0
-todo_effect from place cpy i before step m e = on_run_law (λ n. IsOfBlock n.0) step _ _ m tt e
-todo_effect from place sig i before step m e = on_run_law (λ n. IsOfBlock n.0) step _ _ m tt e
-todo_effect from place hsh i before step m e = on_run_law (λ n. IsOfBlock n.0) step _ _ m tt e
-todo_effect from place (usm asp) i before step m e = on_ask_law (λ n. IsOfBlock n.0) step _ _ m tt e
-todo_effect from place (kim target asp) i before step m e = on_ask_law (λ n. IsOfBlock n.0) step _ _ m tt e
+todo_effect from place (leaf form) i before step m e = either_law (λ s n. IsOfBlock n.0) (is_measurement form) step _ _ _ _ m (λ h. tt) (λ h. tt) e
 todo_effect from place (at asked_place body) i before step m e = on_run_law (λ n. IsOfBlock n.0) step _ _ m tt e
 todo_effect from place (chain left right) i before step m e = no_move (IsOfBlock m.0) m e
 todo_effect from place (seq split left right) i before step m e = on_run_law (λ n. IsOfBlock n.0) step _ _ m tt e

@@ -4,10 +4,10 @@ use Rattle.std.proofs.Common.{◌≡◌, ℕ, ◌+◌, List, refl, sym, subst}
 use Rattle.std.specs.Prelude.{Bool, true, false, not, None, Some, nat_eq, if◌then◌else◌}
 use Rattle.phrase_tree.specs.declared.measurement.Asp.{Asp}
 use Rattle.phrase_tree.specs.declared.phrase.Split.{Split}
-use Rattle.phrase_tree.specs.Term.{Term, cpy, sig, hsh, usm, kim, at, chain, seq, par}
+use Rattle.phrase_tree.specs.Term.{Term, Leaf, is_measurement, leaf, at, chain, seq, par}
 use Rattle.phrase_tree.specs.Numbering.{event_count}
 use Rattle.evidence_types.specs.Evidence.{Evidence, seq_pair, par_pair}
-use Rattle.session_model.specs.Value.{Makings, part, value_of}
+use Rattle.session_model.specs.Value.{Makings, part, leaf_value}
 use Rattle.session_runs.specs.Configuration.{Configuration, todo, asked, posted, remote, first, left_arm, right_arm, both_arms, finished, start, measurement, once_finished, followed_by}
 use Rattle.session_runs.specs.Moves.{Step, run, ask, Deed, in_block, answer, delivery, Effect, silent, happens, sends, asks, answers, starts, Moved, on_run, on_ask, on_answer, on_delivery, on_step, only_if, inside, or_else, todo_moves, own_moves, block_moves, inner_moves}
 
@@ -17,15 +17,12 @@ Made = Effect × Configuration
 
 -- what a law says of a move at a place, from a configuration, with an effect, to the next one
 pub record IsLaw (from : Makings) (P : List ℕ → Configuration → Effect → Configuration → Type 0) : Type 0 where
-  pub copies : (place : List ℕ) (i : ℕ) (before : Evidence) → P place (todo cpy i before) (happens i) (finished (value_of cpy place i before from))
-  pub signs : (place : List ℕ) (i : ℕ) (before : Evidence) → P place (todo sig i before) (happens i) (finished (value_of sig place i before from))
-  pub hashes : (place : List ℕ) (i : ℕ) (before : Evidence) → P place (todo hsh i before) (happens i) (finished (value_of hsh place i before from))
-  pub asks_own : (place : List ℕ) (asp : Asp) (i : ℕ) (before : Evidence) → P place (todo (usm asp) i before) (asks i) (asked (usm asp) i before)
-  pub asks_target : (place target : List ℕ) (asp : Asp) (i : ℕ) (before : Evidence) → P place (todo (kim target asp) i before) (asks i) (asked (kim target asp) i before)
+  pub runs : (place : List ℕ) (form : Leaf) (i : ℕ) (before : Evidence) → is_measurement form ≡ false → P place (todo (leaf form) i before) (happens i) (finished (leaf_value form place i before from))
+  pub asks_for : (place : List ℕ) (form : Leaf) (i : ℕ) (before : Evidence) → is_measurement form ≡ true → P place (todo (leaf form) i before) (asks i) (asked form i before)
   pub posts : (place asked_place : List ℕ) (body : Term) (i : ℕ) (before : Evidence) → P place (todo (at asked_place body) i before) (sends asked_place i) (posted asked_place i body before)
   pub splits : (place : List ℕ) (split : Split) (left right : Term) (i : ℕ) (before : Evidence) → P place (todo (seq split left right) i before) (happens i) (left_arm (start left (i + 1) (part split.left before)) right (i + 1 + event_count left) (part split.right before) (i + 1 + event_count left + event_count right))
   pub forks : (place : List ℕ) (split : Split) (left right : Term) (i : ℕ) (before : Evidence) → P place (todo (par split left right) i before) (happens i) (both_arms i (i + 1 + event_count left + event_count right) (start left (i + 1) (part split.left before)) (start right (i + 1 + event_count left) (part split.right before)) false)
-  pub answered : (place : List ℕ) (phrase : Term) (i : ℕ) (before : Evidence) (bytes : List ℕ) → P place (asked phrase i before) (answers i bytes) (finished (measurement phrase i bytes before))
+  pub answered : (place : List ℕ) (form : Leaf) (i : ℕ) (before : Evidence) (bytes : List ℕ) → P place (asked form i before) (answers i bytes) (finished (measurement form i bytes before))
   pub delivered : (place asked_place : List ℕ) (i : ℕ) (body : Term) (before : Evidence) → P place (posted asked_place i body before) (starts i) (remote asked_place i (i + 1 + event_count body) (start body (i + 1) before) false)
   pub ends_remote : (place asked_place : List ℕ) (i last : ℕ) (result : Evidence) → P place (remote asked_place i last (finished result) false) silent (remote asked_place i last (finished result) true)
   pub replies : (place asked_place : List ℕ) (i last : ℕ) (result : Evidence) → P place (remote asked_place i last (finished result) true) (happens last) (finished result)
@@ -47,11 +44,8 @@ pub record Together (P Q : List ℕ → Configuration → Effect → Configurati
 
 pub together : (from : Makings) (P Q : List ℕ → Configuration → Effect → Configuration → Type 0) → IsLaw from P → IsLaw from Q → IsLaw from (Together P Q)
 together from P Q a b = record {
-  copies = λ place i before. record { one = a.copies place i before; other = b.copies place i before };
-  signs = λ place i before. record { one = a.signs place i before; other = b.signs place i before };
-  hashes = λ place i before. record { one = a.hashes place i before; other = b.hashes place i before };
-  asks_own = λ place asp i before. record { one = a.asks_own place asp i before; other = b.asks_own place asp i before };
-  asks_target = λ place target asp i before. record { one = a.asks_target place target asp i before; other = b.asks_target place target asp i before };
+  runs = λ place form i before h. record { one = a.runs place form i before h; other = b.runs place form i before h };
+  asks_for = λ place form i before h. record { one = a.asks_for place form i before h; other = b.asks_for place form i before h };
   posts = λ place asked_place body i before. record { one = a.posts place asked_place body i before; other = b.posts place asked_place body i before };
   splits = λ place split left right i before. record { one = a.splits place split left right i before; other = b.splits place split left right i before };
   forks = λ place split left right i before. record { one = a.forks place split left right i before; other = b.forks place split left right i before };
@@ -86,6 +80,13 @@ on_run_law Q ask effect c m q e = no_move (Q m) m e
 pub on_ask_law : (Q : Made → Type 0) (step : Step) (effect : Effect) (c : Configuration) (m : Made) → Q (effect, c) → on_ask step effect c ≡ Some m → Q m
 on_ask_law Q run effect c m q e = no_move (Q m) m e
 on_ask_law Q ask effect c m q e = is_this Q (effect, c) m e q
+
+-- what runs, or what is asked for, by a test
+pub either_law : (Q : Step → Made → Type 0) (measured : Bool) (step : Step) (did asked_for : Effect) (c d : Configuration) (m : Made) → (measured ≡ false → Q run (did, c)) → (measured ≡ true → Q ask (asked_for, d)) → (if measured then on_ask step asked_for d else on_run step did c) ≡ Some m → Q step m
+either_law Q true run did asked_for c d m f g e = no_move (Q run m) m e
+either_law Q true ask did asked_for c d m f g e = is_this (Q ask) (asked_for, d) m e (g refl)
+either_law Q false run did asked_for c d m f g e = is_this (Q run) (did, c) m e (f refl)
+either_law Q false ask did asked_for c d m f g e = no_move (Q ask m) m e
 
 pub if_law : (Q : Type 0) (b : Bool) (x : Moved) (m : Made) → (x ≡ Some m → Q) → (if b then x else None) ≡ Some m → Q
 if_law Q true x m f e = f e
@@ -146,11 +147,8 @@ module _ (from : Makings) (P : List ℕ → Configuration → Effect → Configu
   Goes place c m = P place c m.0 m.1
 
   pub todo_law : (place : List ℕ) (phrase : Term) (i : ℕ) (before : Evidence) (step : Step) (m : Made) → todo_moves from place phrase i before step ≡ Some m → P place (todo phrase i before) m.0 m.1
-  todo_law place cpy i before step m e = on_run_law (Goes place (todo cpy i before)) step _ _ m (law.copies place i before) e
-  todo_law place sig i before step m e = on_run_law (Goes place (todo sig i before)) step _ _ m (law.signs place i before) e
-  todo_law place hsh i before step m e = on_run_law (Goes place (todo hsh i before)) step _ _ m (law.hashes place i before) e
-  todo_law place (usm asp) i before step m e = on_ask_law (Goes place (todo (usm asp) i before)) step _ _ m (law.asks_own place asp i before) e
-  todo_law place (kim target asp) i before step m e = on_ask_law (Goes place (todo (kim target asp) i before)) step _ _ m (law.asks_target place target asp i before) e
+  todo_law place (leaf form) i before step m e =
+      either_law (λ s n. Goes place (todo (leaf form) i before) n) (is_measurement form) step _ _ _ _ m (law.runs place form i before) (law.asks_for place form i before) e
   todo_law place (at asked_place body) i before step m e = on_run_law (Goes place (todo (at asked_place body) i before)) step _ _ m (law.posts place asked_place body i before) e
   todo_law place (chain left right) i before step m e = no_move (P place (todo (chain left right) i before) m.0 m.1) m e
   todo_law place (seq split left right) i before step m e = on_run_law (Goes place (todo (seq split left right) i before)) step _ _ m (law.splits place split left right i before) e

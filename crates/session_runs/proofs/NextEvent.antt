@@ -2,14 +2,14 @@
 use Rattle.std.proofs.Common.{◌≡◌, ℕ, ◌+◌, ◌≤◌, ◌<◌, inl, inr, List, [], refl, sym, ap, subst, arith}
 use Rattle.std.specs.Prelude.{Bool, true, false, Option, None, Some, if◌then◌else◌}
 use Rattle.std.proofs.lemmas.Bool.{cases_lt}
-use Rattle.phrase_tree.specs.Term.{Term, cpy, sig, hsh, usm, kim, at, chain, seq, par}
+use Rattle.phrase_tree.specs.Term.{Term, leaf, at, chain, seq, par}
 use Rattle.phrase_tree.specs.Numbering.{event_count}
 use Rattle.evidence_types.specs.Evidence.{Evidence}
 use Rattle.session_runs.specs.Configuration.{Configuration, todo, asked, posted, remote, first, left_arm, right_arm, both_arms, finished, once_finished}
 use Rattle.session_runs.specs.Moves.{Step, run as run_step, ask as ask_step, Effect, silent, happens, sends, asks, answers, starts}
 use Rattle.session_runs.specs.Standing.{Block, of}
-use Rattle.session_runs.specs.MoveOrder.{Ready, ready_to, where_true, ready_block, ready_in}
-use Rattle.session_runs.proofs.Rest.{Rest, none, leaf, ahead, beside, ahead_of, beside_of, framed, rest_of, rest, Takes, Follows}
+use Rattle.session_runs.specs.MoveOrder.{Ready, ready_to, where_true, ready_block, ready_in, leaf_step}
+use Rattle.session_runs.proofs.Rest.{Rest, none, only_event, ahead, beside, ahead_of, beside_of, framed, rest_of, rest, Takes, Follows}
 use Rattle.session_runs.proofs.RestLaws.{same, same_one, same_is, count, count_ahead, count_beside, takes_count, Covers, covers_leaf, covers_ahead, covers_beside, covers_phrase}
 use Rattle.session_runs.proofs.Waiting.{posts, flights}
 use Rattle.session_runs.proofs.ProgressLaws.{IsGoing, IsProper}
@@ -22,19 +22,19 @@ record IsAcross (a b : Rest) : Type 0 where
 -- the numbers that are left rise from left to right
 abbrev pub Rises : Rest → Type 0
 Rises none = Unit {0}
-Rises (leaf measured n) = Unit {0}
+Rises (only_event measured n) = Unit {0}
 Rises (ahead a b) = Rises a × Rises b × ((x y : ℕ) → 1 ≤ count a x → 1 ≤ count b y → x < y)
 Rises (beside a b) = Rises a × Rises b × ((x y : ℕ) → 1 ≤ count a x → 1 ≤ count b y → x < y)
 
 rises_ahead : (a b : Rest) → Rises a → Rises b → IsAcross a b → Rises (ahead_of a b)
 rises_ahead none b h k across = k
-rises_ahead (leaf f n) b h k across = (h, k, across.less)
+rises_ahead (only_event f n) b h k across = (h, k, across.less)
 rises_ahead (ahead x y) b h k across = (h, k, across.less)
 rises_ahead (beside x y) b h k across = (h, k, across.less)
 
 rises_beside : (a b : Rest) → Rises a → Rises b → IsAcross a b → Rises (beside_of a b)
 rises_beside none b h k across = k
-rises_beside (leaf f n) b h k across = (h, k, across.less)
+rises_beside (only_event f n) b h k across = (h, k, across.less)
 rises_beside (ahead x y) b h k across = (h, k, across.less)
 rises_beside (beside x y) b h k across = (h, k, across.less)
 
@@ -45,13 +45,13 @@ record HasParts (a b : Rest) : Type 0 where
 
 parts_ahead : (a b : Rest) → Rises (ahead_of a b) → HasParts a b
 parts_ahead none b h = record { left = tt; right = h; across = record { less = λ x y l r. absurd (omega (arith, l)) } }
-parts_ahead (leaf f n) b h = record { left = h.0; right = h.1; across = record { less = h.2 } }
+parts_ahead (only_event f n) b h = record { left = h.0; right = h.1; across = record { less = h.2 } }
 parts_ahead (ahead x y) b h = record { left = h.0; right = h.1; across = record { less = h.2 } }
 parts_ahead (beside x y) b h = record { left = h.0; right = h.1; across = record { less = h.2 } }
 
 parts_beside : (a b : Rest) → Rises (beside_of a b) → HasParts a b
 parts_beside none b h = record { left = tt; right = h; across = record { less = λ x y l r. absurd (omega (arith, l)) } }
-parts_beside (leaf f n) b h = record { left = h.0; right = h.1; across = record { less = h.2 } }
+parts_beside (only_event f n) b h = record { left = h.0; right = h.1; across = record { less = h.2 } }
 parts_beside (ahead x y) b h = record { left = h.0; right = h.1; across = record { less = h.2 } }
 parts_beside (beside x y) b h = record { left = h.0; right = h.1; across = record { less = h.2 } }
 
@@ -73,15 +73,11 @@ across_ranges low middle high a b c d = record {
 
 framed_rises : (i last : ℕ) (inner : Rest) → i + 1 ≤ last → ((n : ℕ) → Covers (i + 1) last inner n) → Rises inner → Rises (framed i inner last)
 framed_rises i last inner le c h =
-    let behind : Rises (ahead_of inner (leaf false last)) = rises_ahead inner (leaf false last) h tt (across_ranges (i + 1) last (last + 1) inner (leaf false last) c (λ n. covers_leaf false last (last + 1) n refl)) in
-    rises_ahead (leaf false i) (ahead_of inner (leaf false last)) tt behind (across_ranges i (i + 1) (last + 1) (leaf false i) (ahead_of inner (leaf false last)) (λ n. covers_leaf false i (i + 1) n refl) (λ n. covers_ahead (i + 1) last (last + 1) inner (leaf false last) n le (omega arith) (c n) (covers_leaf false last (last + 1) n refl)))
+    let behind : Rises (ahead_of inner (only_event false last)) = rises_ahead inner (only_event false last) h tt (across_ranges (i + 1) last (last + 1) inner (only_event false last) c (λ n. covers_leaf false last (last + 1) n refl)) in
+    rises_ahead (only_event false i) (ahead_of inner (only_event false last)) tt behind (across_ranges i (i + 1) (last + 1) (only_event false i) (ahead_of inner (only_event false last)) (λ n. covers_leaf false i (i + 1) n refl) (λ n. covers_ahead (i + 1) last (last + 1) inner (only_event false last) n le (omega arith) (c n) (covers_leaf false last (last + 1) n refl)))
 
 pub phrase_rises : (phrase : Term) (i : ℕ) → Rises (rest_of phrase i)
-phrase_rises cpy i = tt
-phrase_rises sig i = tt
-phrase_rises hsh i = tt
-phrase_rises (usm asp) i = tt
-phrase_rises (kim target asp) i = tt
+phrase_rises (leaf form) i = tt
 phrase_rises (at place body) i =
     framed_rises i (i + 1 + event_count body) (rest_of body (i + 1)) (omega arith) (λ n. covers_phrase body (i + 1) n) (phrase_rises body (i + 1))
 phrase_rises (chain left right) i =
@@ -98,7 +94,7 @@ phrase_rises (par split left right) i =
 -- what comes off leaves it rising
 takes_rises : (r : Rest) (f : Bool) (n : ℕ) (r' : Rest) → Takes r f n r' → Rises r → Rises r'
 takes_rises none f n r' h k = absurd h
-takes_rises (leaf g m) f n r' h k = subst Rises (sym h.2) tt
+takes_rises (only_event g m) f n r' h k = subst Rises (sym h.2) tt
 takes_rises (ahead a b) f n r' h k =
     subst Rises (sym h.2) (rises_ahead h.0 b (takes_rises a f n h.0 h.1 k.0) k.1 (record { less = λ x y l o. k.2 x y (omega (arith, l, takes_count a f n h.0 x h.1)) o }))
 takes_rises (beside a b) f n r' (inl h) k =
@@ -151,11 +147,7 @@ phrase_goes : (own : Block) (phrase : Term) (i : ℕ) (before : Evidence) → Is
 phrase_goes own phrase i before proper = by_first (covers_phrase phrase i i)
   where
     some_event : (phrase : Term) → 1 ≤ event_count phrase
-    some_event cpy = omega arith
-    some_event sig = omega arith
-    some_event hsh = omega arith
-    some_event (usm asp) = omega arith
-    some_event (kim target asp) = omega arith
+    some_event (leaf form) = omega arith
     some_event (at place body) = omega arith
     some_event (chain left right) = omega (arith, some_event left)
     some_event (seq split left right) = omega arith
@@ -165,11 +157,7 @@ phrase_goes own phrase i before proper = by_first (covers_phrase phrase i i)
     least phrase i m h = (in_range i (i + event_count phrase) (rest_of phrase i) m (covers_phrase phrase i m) h).from
 
     by_form : (phrase : Term) → IsProper (todo phrase i before) → 1 ≤ count (rest_of phrase i) i → Goes own (todo phrase i before)
-    by_form cpy p here = by_event own run_step i (inl (refl, refl, refl)) here (λ m h. least cpy i m h)
-    by_form sig p here = by_event own run_step i (inl (refl, refl, refl)) here (λ m h. least sig i m h)
-    by_form hsh p here = by_event own run_step i (inl (refl, refl, refl)) here (λ m h. least hsh i m h)
-    by_form (usm asp) p here = by_event own ask_step i (inl (refl, refl, refl)) here (λ m h. least (usm asp) i m h)
-    by_form (kim target asp) p here = by_event own ask_step i (inl (refl, refl, refl)) here (λ m h. least (kim target asp) i m h)
+    by_form (leaf form) p here = by_event own (leaf_step form) i (inl (refl, refl, refl)) here (λ m h. least (leaf form) i m h)
     by_form (at place body) p here = by_event own run_step i (inl (refl, refl, refl)) here (λ m h. least (at place body) i m h)
     by_form (chain left right) p here = absurd p
     by_form (seq split left right) p here = by_event own run_step i (inl (refl, refl, refl)) here (λ m h. least (seq split left right) i m h)
@@ -181,13 +169,13 @@ phrase_goes own phrase i before proper = by_first (covers_phrase phrase i i)
 last_only : (last m : ℕ) → 1 ≤ same last m → last ≤ m
 last_only last m h = omega (arith, same_is last m h)
 
-remote_goes : (own : Block) (asked_place : List ℕ) (i last : ℕ) (inner : Configuration) (ended : Bool) → Rises (ahead_of (rest inner) (leaf false last)) → Goes (of i) inner → Goes own (remote asked_place i last inner ended)
+remote_goes : (own : Block) (asked_place : List ℕ) (i last : ℕ) (inner : Configuration) (ended : Bool) → Rises (ahead_of (rest inner) (only_event false last)) → Goes (of i) inner → Goes own (remote asked_place i last inner ended)
 remote_goes own asked_place i last inner ended rises (by_event block step n ready here least) =
     by_event block step n
     (ready_left (ready_block i inner ended (ready_in (of i) inner)) (once_finished inner [] (λ result. where_true ended (ready_to own run_step (Some last)))) block step (Some n)
     (subst (λ xs. IsReady xs block step (Some n)) (sym (until_ready (of i) inner block step (Some n) (List Ready) (ready_in (of i) inner) (λ result. if ended then [] else ready_to (of i) run_step None) ready)) ready))
-    (omega (arith, here, count_ahead (rest inner) (leaf false last) n))
-    (λ m h. least_ahead (rest inner) (leaf false last) n (parts_ahead (rest inner) (leaf false last) rises) here least m h)
+    (omega (arith, here, count_ahead (rest inner) (only_event false last) n))
+    (λ m h. least_ahead (rest inner) (only_event false last) n (parts_ahead (rest inner) (only_event false last) rises) here least m h)
 remote_goes own asked_place i last inner ended rises (by_none block step ready) =
     by_none block step
     (ready_left (ready_block i inner ended (ready_in (of i) inner)) (once_finished inner [] (λ result. where_true ended (ready_to own run_step (Some last)))) block step None
@@ -209,14 +197,14 @@ first_goes own inner right i going rises (by_request n h) = by_request n h
 first_goes own inner right i going rises (by_ask n h) = by_ask n h
 first_goes own inner right i going rises (is_over result is) = absurd (subst IsGoing is going)
 
-left_goes : (own : Block) (inner : Configuration) (right : Term) (i : ℕ) (before : Evidence) (last : ℕ) → Rises (ahead_of (ahead_of (rest inner) (rest_of right i)) (leaf false last)) → Goes own inner → Goes own (left_arm inner right i before last)
+left_goes : (own : Block) (inner : Configuration) (right : Term) (i : ℕ) (before : Evidence) (last : ℕ) → Rises (ahead_of (ahead_of (rest inner) (rest_of right i)) (only_event false last)) → Goes own inner → Goes own (left_arm inner right i before last)
 left_goes own inner right i before last rises (by_event block step n ready here least) =
-    let outer = parts_ahead (ahead_of (rest inner) (rest_of right i)) (leaf false last) rises in
+    let outer = parts_ahead (ahead_of (rest inner) (rest_of right i)) (only_event false last) rises in
     let there : 1 ≤ count (ahead_of (rest inner) (rest_of right i)) n = omega (arith, here, count_ahead (rest inner) (rest_of right i) n) in
     by_event block step n
     (subst (λ xs. IsReady xs block step (Some n)) (sym (until_ready own inner block step (Some n) (List Ready) (ready_in own inner) (λ result. ready_to own run_step None) ready)) ready)
-    (omega (arith, there, count_ahead (ahead_of (rest inner) (rest_of right i)) (leaf false last) n))
-    (λ m h. least_ahead (ahead_of (rest inner) (rest_of right i)) (leaf false last) n outer there (λ k g. least_ahead (rest inner) (rest_of right i) n (parts_ahead (rest inner) (rest_of right i) outer.left) here least k g) m h)
+    (omega (arith, there, count_ahead (ahead_of (rest inner) (rest_of right i)) (only_event false last) n))
+    (λ m h. least_ahead (ahead_of (rest inner) (rest_of right i)) (only_event false last) n outer there (λ k g. least_ahead (rest inner) (rest_of right i) n (parts_ahead (rest inner) (rest_of right i) outer.left) here least k g) m h)
 left_goes own inner right i before last rises (by_none block step ready) =
     by_none block step (subst (λ xs. IsReady xs block step None) (sym (until_ready own inner block step None (List Ready) (ready_in own inner) (λ result. ready_to own run_step None) ready)) ready)
 left_goes own inner right i before last rises (by_request n h) = by_request n h
@@ -224,12 +212,12 @@ left_goes own inner right i before last rises (by_ask n h) = by_ask n h
 left_goes own inner right i before last rises (is_over result is) =
     subst (λ c. Goes own (left_arm c right i before last)) (sym is) (by_none own run_step (inl (refl, refl, refl)))
 
-right_goes : (own : Block) (left_result : Evidence) (inner : Configuration) (last : ℕ) → Rises (ahead_of (rest inner) (leaf false last)) → Goes own inner → Goes own (right_arm left_result inner last)
+right_goes : (own : Block) (left_result : Evidence) (inner : Configuration) (last : ℕ) → Rises (ahead_of (rest inner) (only_event false last)) → Goes own inner → Goes own (right_arm left_result inner last)
 right_goes own left_result inner last rises (by_event block step n ready here least) =
     by_event block step n
     (subst (λ xs. IsReady xs block step (Some n)) (sym (until_ready own inner block step (Some n) (List Ready) (ready_in own inner) (λ result. ready_to own run_step (Some last)) ready)) ready)
-    (omega (arith, here, count_ahead (rest inner) (leaf false last) n))
-    (λ m h. least_ahead (rest inner) (leaf false last) n (parts_ahead (rest inner) (leaf false last) rises) here least m h)
+    (omega (arith, here, count_ahead (rest inner) (only_event false last) n))
+    (λ m h. least_ahead (rest inner) (only_event false last) n (parts_ahead (rest inner) (only_event false last) rises) here least m h)
 right_goes own left_result inner last rises (by_none block step ready) =
     by_none block step (subst (λ xs. IsReady xs block step None) (sym (until_ready own inner block step None (List Ready) (ready_in own inner) (λ result. ready_to own run_step (Some last)) ready)) ready)
 right_goes own left_result inner last rises (by_request n h) = by_request n h
@@ -238,13 +226,13 @@ right_goes own left_result inner last rises (is_over result is) =
     subst (λ c. Goes own (right_arm left_result c last)) (sym is) (by_event own run_step last (inl (refl, refl, refl)) (omega (arith, same_one last last refl)) (λ m h. last_only last m h))
 
 -- the right arm, once the left one is finished
-other_goes : (own : Block) (i last : ℕ) (left_result : Evidence) (right : Configuration) (ended : Bool) → Rises (ahead_of (rest right) (leaf false last)) → Goes (of i) right → Goes own (both_arms i last (finished left_result) right ended)
+other_goes : (own : Block) (i last : ℕ) (left_result : Evidence) (right : Configuration) (ended : Bool) → Rises (ahead_of (rest right) (only_event false last)) → Goes (of i) right → Goes own (both_arms i last (finished left_result) right ended)
 other_goes own i last left_result right ended rises (by_event block step n ready here least) =
     by_event block step n
     (ready_right (once_finished right [] (λ right_result. where_true ended (ready_to own run_step (Some last)))) (ready_block i right ended (ready_in (of i) right)) block step (Some n)
     (subst (λ xs. IsReady xs block step (Some n)) (sym (until_ready (of i) right block step (Some n) (List Ready) (ready_in (of i) right) (λ result. if ended then [] else ready_to (of i) run_step None) ready)) ready))
-    (omega (arith, here, count_ahead (rest right) (leaf false last) n))
-    (λ m h. least_ahead (rest right) (leaf false last) n (parts_ahead (rest right) (leaf false last) rises) here least m h)
+    (omega (arith, here, count_ahead (rest right) (only_event false last) n))
+    (λ m h. least_ahead (rest right) (only_event false last) n (parts_ahead (rest right) (only_event false last) rises) here least m h)
 other_goes own i last left_result right ended rises (by_none block step ready) =
     by_none block step
     (ready_right (once_finished right [] (λ right_result. where_true ended (ready_to own run_step (Some last)))) (ready_block i right ended (ready_in (of i) right)) block step None
@@ -258,15 +246,15 @@ other_goes own i last left_result right ended rises (is_over result is) =
     over true = by_event own run_step last (inl (refl, refl, refl)) (omega (arith, same_one last last refl)) (λ m h. last_only last m h)
     over false = by_none (of i) run_step (inl (refl, refl, refl))
 
-both_goes : (own : Block) (i last : ℕ) (left right : Configuration) (ended : Bool) → Rises (ahead_of (beside_of (rest left) (rest right)) (leaf false last)) → Goes own left → Goes (of i) right → Goes own (both_arms i last left right ended)
+both_goes : (own : Block) (i last : ℕ) (left right : Configuration) (ended : Bool) → Rises (ahead_of (beside_of (rest left) (rest right)) (only_event false last)) → Goes own left → Goes (of i) right → Goes own (both_arms i last left right ended)
 both_goes own i last left right ended rises (by_event block step n ready here least) other =
-    let outer = parts_ahead (beside_of (rest left) (rest right)) (leaf false last) rises in
+    let outer = parts_ahead (beside_of (rest left) (rest right)) (only_event false last) rises in
     let there : 1 ≤ count (beside_of (rest left) (rest right)) n = omega (arith, here, count_beside (rest left) (rest right) n) in
     by_event block step n
     (ready_left (once_finished left (ready_in own left) (λ left_result. once_finished right [] (λ right_result. where_true ended (ready_to own run_step (Some last))))) (ready_block i right ended (ready_in (of i) right)) block step (Some n)
     (subst (λ xs. IsReady xs block step (Some n)) (sym (until_ready own left block step (Some n) (List Ready) (ready_in own left) (λ left_result. once_finished right [] (λ right_result. where_true ended (ready_to own run_step (Some last)))) ready)) ready))
-    (omega (arith, there, count_ahead (beside_of (rest left) (rest right)) (leaf false last) n))
-    (λ m h. least_ahead (beside_of (rest left) (rest right)) (leaf false last) n outer there (λ k g. least_beside (rest left) (rest right) n (parts_beside (rest left) (rest right) outer.left) here least k g) m h)
+    (omega (arith, there, count_ahead (beside_of (rest left) (rest right)) (only_event false last) n))
+    (λ m h. least_ahead (beside_of (rest left) (rest right)) (only_event false last) n outer there (λ k g. least_beside (rest left) (rest right) n (parts_beside (rest left) (rest right) outer.left) here least k g) m h)
 both_goes own i last left right ended rises (by_none block step ready) other =
     by_none block step
     (ready_left (once_finished left (ready_in own left) (λ left_result. once_finished right [] (λ right_result. where_true ended (ready_to own run_step (Some last))))) (ready_block i right ended (ready_in (of i) right)) block step None
@@ -274,7 +262,7 @@ both_goes own i last left right ended rises (by_none block step ready) other =
 both_goes own i last left right ended rises (by_request n h) other = by_request n (omega (arith, h))
 both_goes own i last left right ended rises (by_ask n h) other = by_ask n (omega (arith, h))
 both_goes own i last left right ended rises (is_over result is) other =
-    subst (λ c. Goes own (both_arms i last c right ended)) (sym is) (other_goes own i last result right ended (subst (λ r. Rises (ahead_of (beside_of r (rest right)) (leaf false last))) (ap (λ c. rest c) is) rises) other)
+    subst (λ c. Goes own (both_arms i last c right ended)) (sym is) (other_goes own i last result right ended (subst (λ r. Rises (ahead_of (beside_of r (rest right)) (only_event false last))) (ap (λ c. rest c) is) rises) other)
 
 -- what comes next, where the configuration is proper and what is left of it rises
 pub goes : (own : Block) (c : Configuration) → IsProper c → Rises (rest c) → Goes own c
@@ -282,14 +270,14 @@ goes own (todo phrase i before) proper rises = phrase_goes own phrase i before p
 goes own (asked phrase i before) proper rises = by_ask i (omega (arith, same_one i i refl))
 goes own (posted asked_place i body before) proper rises = by_request i (omega (arith, same_one i i refl))
 goes own (remote asked_place i last inner ended) proper rises =
-    remote_goes own asked_place i last inner ended rises (goes (of i) inner proper (parts_ahead (rest inner) (leaf false last) rises).left)
+    remote_goes own asked_place i last inner ended rises (goes (of i) inner proper (parts_ahead (rest inner) (only_event false last) rises).left)
 goes own (first inner right i) proper rises =
     first_goes own inner right i proper.1 rises (goes own inner proper.0 (parts_ahead (rest inner) (rest_of right i) rises).left)
 goes own (left_arm inner right i before last) proper rises =
-    left_goes own inner right i before last rises (goes own inner proper (parts_ahead (rest inner) (rest_of right i) (parts_ahead (ahead_of (rest inner) (rest_of right i)) (leaf false last) rises).left).left)
+    left_goes own inner right i before last rises (goes own inner proper (parts_ahead (rest inner) (rest_of right i) (parts_ahead (ahead_of (rest inner) (rest_of right i)) (only_event false last) rises).left).left)
 goes own (right_arm left_result inner last) proper rises =
-    right_goes own left_result inner last rises (goes own inner proper (parts_ahead (rest inner) (leaf false last) rises).left)
+    right_goes own left_result inner last rises (goes own inner proper (parts_ahead (rest inner) (only_event false last) rises).left)
 goes own (both_arms i last left right ended) proper rises =
-    let inside = parts_beside (rest left) (rest right) (parts_ahead (beside_of (rest left) (rest right)) (leaf false last) rises).left in
+    let inside = parts_beside (rest left) (rest right) (parts_ahead (beside_of (rest left) (rest right)) (only_event false last) rises).left in
     both_goes own i last left right ended rises (goes own left proper.0 inside.left) (goes (of i) right proper.1 inside.right)
 goes own (finished result) proper rises = is_over result refl

@@ -2,7 +2,7 @@
 use Rattle.std.proofs.Common.{◌≡◌, ℕ, ◌+◌, ◌≤◌, ◌<◌, inl, inr, List, [], refl, sym, ◌∙◌, ap, subst, arith}
 use Rattle.std.specs.Prelude.{Bool, true, false, Option, None, Some, if◌then◌else◌, Contains}
 use Rattle.std.proofs.lemmas.Bool.{eq-eqb, lt-ltb, le-ltb}
-use Rattle.phrase_tree.specs.Term.{Term, cpy, sig, hsh, usm, kim, at, chain, seq, par}
+use Rattle.phrase_tree.specs.Term.{Term, leaf, at, chain, seq, par}
 use Rattle.phrase_tree.specs.Numbering.{event_count}
 use Rattle.evidence_types.specs.Evidence.{Evidence, nonce}
 use Rattle.session_model.specs.Session.{Session}
@@ -11,7 +11,7 @@ use Rattle.session_runs.specs.Configuration.{Configuration, todo, asked, posted,
 use Rattle.session_runs.specs.Moves.{Step, run as run_step, ask as ask_step, Effect}
 use Rattle.session_runs.specs.Standing.{Block, root, of, Entry, Standing, opening, makings}
 use Rattle.session_runs.specs.History.{standing_after}
-use Rattle.session_runs.specs.MoveOrder.{Ready, ready_to, where_true, ready_phrase, ready_block, ready_in, ready_of}
+use Rattle.session_runs.specs.MoveOrder.{Ready, ready_to, where_true, ready_phrase, ready_block, ready_in, ready_of, leaf_step}
 use Rattle.session_runs.specs.Owner.{only_at, split_at, owner}
 use Rattle.session_runs.proofs.Induction.{IsLaw}
 use Rattle.session_runs.proofs.EntryLaws.{Onward, moved, root_ended, faulted, starves, onward, after_configuration, some_is}
@@ -21,11 +21,7 @@ use Rattle.session_runs.proofs.ListingLaws.{among_contains, among_ready}
 
 -- the events of a phrase that a block runs are owned as these owners say
 abbrev pub OwnsPhrase : (ℕ → Option Block) → Block → Term → ℕ → Type 0
-OwnsPhrase F b cpy i = F i ≡ Some b
-OwnsPhrase F b sig i = F i ≡ Some b
-OwnsPhrase F b hsh i = F i ≡ Some b
-OwnsPhrase F b (usm asp) i = F i ≡ Some b
-OwnsPhrase F b (kim target asp) i = F i ≡ Some b
+OwnsPhrase F b (leaf form) i = F i ≡ Some b
 OwnsPhrase F b (at place body) i = (F i ≡ Some b) × OwnsPhrase F (of i) body (i + 1) × (F (i + 1 + event_count body) ≡ Some b)
 OwnsPhrase F b (chain left right) i = OwnsPhrase F b left i × OwnsPhrase F b right (i + event_count left)
 OwnsPhrase F b (seq split left right) i =
@@ -46,11 +42,7 @@ Owns F b (both_arms i last left right ended) = Owns F b left × Owns F (of i) ri
 Owns F b (finished result) = Unit {0}
 
 start_owns : (F : ℕ → Option Block) (b : Block) (phrase : Term) (i : ℕ) (before : Evidence) → OwnsPhrase F b phrase i → Owns F b (start phrase i before)
-start_owns F b cpy i before h = h
-start_owns F b sig i before h = h
-start_owns F b hsh i before h = h
-start_owns F b (usm asp) i before h = h
-start_owns F b (kim target asp) i before h = h
+start_owns F b (leaf form) i before h = h
 start_owns F b (at place body) i before h = h
 start_owns F b (chain left right) i before h = (start_owns F b left i before h.0, h.1)
 start_owns F b (seq split left right) i before h = h
@@ -72,11 +64,8 @@ StaysOwned F place c effect d = (b : Block) → Owns F b c → Owns F b d
 
 owns_law : (from : Makings) (F : ℕ → Option Block) → IsLaw from (StaysOwned F)
 owns_law from F = record {
-  copies = λ place i before b h. tt;
-  signs = λ place i before b h. tt;
-  hashes = λ place i before b h. tt;
-  asks_own = λ place asp i before b h. h;
-  asks_target = λ place target asp i before b h. h;
+  runs = λ place form i before other b h. tt;
+  asks_for = λ place form i before measured b h. h;
   posts = λ place asked_place body i before b h. (h.1, h.2);
   splits = λ place split left right i before b h. (start_owns F b left (i + 1) (part split.left before) h.1, h.2, h.3);
   forks = λ place split left right i before b h. (start_owns F b left (i + 1) (part split.left before) h.1, start_owns F (of i) right (i + 1 + event_count left) (part split.right before) h.2, h.3);
@@ -122,11 +111,7 @@ only_here i b = ap (λ t. if t then Some b else None) (eq-eqb i i refl)
 
 -- owners that agree with those of a phrase on its range own its events
 owner_owns : (phrase : Term) (b : Block) (i : ℕ) (F : ℕ → Option Block) → ((n : ℕ) → i ≤ n → n < i + event_count phrase → F n ≡ owner phrase b i n) → OwnsPhrase F b phrase i
-owner_owns cpy b i F agree = agree i (omega arith) (omega arith) ∙ only_here i b
-owner_owns sig b i F agree = agree i (omega arith) (omega arith) ∙ only_here i b
-owner_owns hsh b i F agree = agree i (omega arith) (omega arith) ∙ only_here i b
-owner_owns (usm asp) b i F agree = agree i (omega arith) (omega arith) ∙ only_here i b
-owner_owns (kim target asp) b i F agree = agree i (omega arith) (omega arith) ∙ only_here i b
+owner_owns (leaf form) b i F agree = agree i (omega arith) (omega arith) ∙ only_here i b
 owner_owns (at place body) b i F agree =
     let last = i + 1 + event_count body in (
       agree i (omega arith) (omega arith) ∙ low_side (i + 1) i (only_at i b i) (split_at last i (owner body (of i) (i + 1) i) (only_at last b i)) (omega arith) ∙ only_here i b,
@@ -177,11 +162,7 @@ end_owned Q i true block step n h = absurd h
 end_owned Q i false block step n h = silent_owned Q (of i) run_step block step n h
 
 phrase_owned : (F : ℕ → Option Block) (own : Block) (phrase : Term) (i : ℕ) (block : Block) (step : Step) (n : ℕ) → OwnsPhrase F own phrase i → IsReady (ready_phrase own phrase i) block step (Some n) → F n ≡ Some block
-phrase_owned F own cpy i block step n o h = one_owned F own run_step i block step n o h
-phrase_owned F own sig i block step n o h = one_owned F own run_step i block step n o h
-phrase_owned F own hsh i block step n o h = one_owned F own run_step i block step n o h
-phrase_owned F own (usm asp) i block step n o h = one_owned F own ask_step i block step n o h
-phrase_owned F own (kim target asp) i block step n o h = one_owned F own ask_step i block step n o h
+phrase_owned F own (leaf form) i block step n o h = one_owned F own (leaf_step form) i block step n o h
 phrase_owned F own (at place body) i block step n o h = one_owned F own run_step i block step n o.0 h
 phrase_owned F own (chain left right) i block step n o h = absurd h
 phrase_owned F own (seq split left right) i block step n o h = one_owned F own run_step i block step n o.0 h

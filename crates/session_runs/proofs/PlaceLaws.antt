@@ -2,7 +2,7 @@
 use Rattle.std.proofs.Common.{◌≡◌, ℕ, ◌+◌, ◌≤◌, ◌⊎◌, inl, inr, List, [], ◌∷◌, ◌++◌, length, refl, sym, subst, arith}
 use Rattle.std.specs.Prelude.{Bool, true, false, Option, None, Some, nat_eq, if◌then◌else◌, Contains}
 use Rattle.std.specs.Cmp.Lexicographic.{pointwise, same_text}
-use Rattle.phrase_tree.specs.Term.{Term, cpy, sig, hsh, usm, kim, at, chain, seq, par}
+use Rattle.phrase_tree.specs.Term.{Term, leaf, at, chain, seq, par}
 use Rattle.phrase_tree.specs.Numbering.{event_count}
 use Rattle.evidence_types.specs.Evidence.{Evidence, nonce}
 use Rattle.session_model.specs.Session.{Session}
@@ -33,11 +33,7 @@ Within places (both_arms i last left right ended) = Within places left × Within
 Within places (finished result) = Unit {0}
 
 start_within : (places : List (List ℕ)) (phrase : Term) (i : ℕ) (before : Evidence) → AsksOnly places phrase → Within places (start phrase i before)
-start_within places cpy i before h = tt
-start_within places sig i before h = tt
-start_within places hsh i before h = tt
-start_within places (usm asp) i before h = tt
-start_within places (kim target asp) i before h = tt
+start_within places (leaf form) i before h = tt
 start_within places (at place body) i before h = h
 start_within places (chain left right) i before h = (start_within places left i before h.0, h.1)
 start_within places (seq split left right) i before h = h
@@ -64,11 +60,8 @@ StaysWithin places place c effect d = Within places c → Within places d × Sen
 
 within_law : (from : Makings) (places : List (List ℕ)) → IsLaw from (StaysWithin places)
 within_law from places = record {
-  copies = λ place i before h. (tt, tt);
-  signs = λ place i before h. (tt, tt);
-  hashes = λ place i before h. (tt, tt);
-  asks_own = λ place asp i before h. (tt, tt);
-  asks_target = λ place target asp i before h. (tt, tt);
+  runs = λ place form i before other h. (tt, tt);
+  asks_for = λ place form i before measured h. (tt, tt);
   posts = λ place asked_place body i before h. (h.1, h.0);
   splits = λ place split left right i before h. ((start_within places left (i + 1) (part split.left before) h.0, h.1), tt);
   forks = λ place split left right i before h. ((start_within places left (i + 1) (part split.left before) h.0, start_within places right (i + 1 + event_count left) (part split.right before) h.1), tt);

@@ -3,7 +3,7 @@ use Rattle.std.proofs.Common.{◌≡◌, ℕ, ◌+◌, ◌≤◌, inl, inr, List
 use Rattle.std.specs.Prelude.{Bool, true, false, not, Option, None, Some, nat_eq, if◌then◌else◌}
 use Rattle.std.specs.Cmp.Lexicographic.{pointwise}
 use Rattle.std.proofs.lemmas.Bool.{cases_lt, eq-eqb, and_from}
-use Rattle.phrase_tree.specs.Term.{Term, cpy, sig, hsh, usm, kim, at, chain, seq, par}
+use Rattle.phrase_tree.specs.Term.{Term, cpy, sig, hsh, nul, usm, kim, leaf, at, chain, seq, par}
 use Rattle.phrase_tree.specs.Numbering.{event_count}
 use Rattle.evidence_types.specs.Evidence.{Evidence, nonce, seq_pair, par_pair}
 use Rattle.session_model.specs.Session.{Session}
@@ -38,22 +38,14 @@ IsProper (both_arms i last left right ended) = IsProper left × IsProper right
 IsProper (finished result) = Unit {0}
 
 start_going : (phrase : Term) (i : ℕ) (before : Evidence) → IsGoing (start phrase i before)
-start_going cpy i before = tt
-start_going sig i before = tt
-start_going hsh i before = tt
-start_going (usm asp) i before = tt
-start_going (kim target asp) i before = tt
+start_going (leaf form) i before = tt
 start_going (at place body) i before = tt
 start_going (chain left right) i before = tt
 start_going (seq split left right) i before = tt
 start_going (par split left right) i before = tt
 
 start_proper : (phrase : Term) (i : ℕ) (before : Evidence) → IsProper (start phrase i before)
-start_proper cpy i before = tt
-start_proper sig i before = tt
-start_proper hsh i before = tt
-start_proper (usm asp) i before = tt
-start_proper (kim target asp) i before = tt
+start_proper (leaf form) i before = tt
 start_proper (at place body) i before = tt
 start_proper (chain left right) i before = (start_proper left i before, start_going left i before)
 start_proper (seq split left right) i before = tt
@@ -75,11 +67,8 @@ StaysProper place c effect d = IsProper c → IsProper d
 
 pub proper_law : (from : Makings) → IsLaw from StaysProper
 proper_law from = record {
-  copies = λ place i before h. tt;
-  signs = λ place i before h. tt;
-  hashes = λ place i before h. tt;
-  asks_own = λ place asp i before h. tt;
-  asks_target = λ place target asp i before h. tt;
+  runs = λ place form i before other h. tt;
+  asks_for = λ place form i before measured h. tt;
   posts = λ place asked_place body i before h. tt;
   splits = λ place split left right i before h. start_proper left (i + 1) (part split.left before);
   forks = λ place split left right i before h. (start_proper left (i + 1) (part split.left before), start_proper right (i + 1 + event_count left) (part split.right before));
@@ -145,11 +134,12 @@ block_made from place inner ended whole step m e =
 
 module _ (from : Makings) where
   alive_todo : (place : List ℕ) (phrase : Term) (i : ℕ) (before : Evidence) → IsProper (todo phrase i before) → Alive from place (todo phrase i before)
-  alive_todo place cpy i before h = by_own run_step _ refl
-  alive_todo place sig i before h = by_own run_step _ refl
-  alive_todo place hsh i before h = by_own run_step _ refl
-  alive_todo place (usm asp) i before h = by_own ask_step _ refl
-  alive_todo place (kim target asp) i before h = by_own ask_step _ refl
+  alive_todo place (leaf cpy) i before h = by_own run_step _ refl
+  alive_todo place (leaf sig) i before h = by_own run_step _ refl
+  alive_todo place (leaf hsh) i before h = by_own run_step _ refl
+  alive_todo place (leaf nul) i before h = by_own run_step _ refl
+  alive_todo place (leaf (usm asp)) i before h = by_own ask_step _ refl
+  alive_todo place (leaf (kim target asp)) i before h = by_own ask_step _ refl
   alive_todo place (at asked_place body) i before h = by_own run_step _ refl
   alive_todo place (chain left right) i before h = absurd h
   alive_todo place (seq split left right) i before h = by_own run_step _ refl

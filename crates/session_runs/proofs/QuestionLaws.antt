@@ -2,14 +2,14 @@
 use Rattle.std.proofs.Common.{◌≡◌, ℕ, ◌+◌, ◌≤◌, inl, inr, List, [], ◌∷◌, ◌++◌, refl, sym, ◌∙◌, ap, arith}
 use Rattle.std.specs.Prelude.{false, Option, None, Some, if◌then◌else◌}
 use Rattle.std.proofs.lemmas.Bool.{cases_eq, eq-eqb, ne_eqb}
-use Rattle.phrase_tree.specs.Term.{Term, cpy, sig, hsh, usm, kim, at, chain, seq, par}
+use Rattle.phrase_tree.specs.Term.{Term, cpy, sig, hsh, nul, usm, kim, leaf, at, chain, seq, par}
 use Rattle.phrase_tree.specs.Numbering.{event_count}
 use Rattle.phrase_tree.specs.Events.{Event, event, replies, joins, events_of}
 use Rattle.evidence_types.specs.Answers.{answer_at}
 use Rattle.bench_trait.specs.declared.ask.Ask.{Ask}
 use Rattle.bench_trait.specs.Asking.{question_of, ahead_of as asked_ahead_of, questions_of, question_among}
 use Rattle.session_runs.specs.History.{answers_to}
-use Rattle.session_runs.proofs.Rest.{Rest, leaf, ahead_of, beside_of, framed, rest_of}
+use Rattle.session_runs.proofs.Rest.{Rest, only_event, ahead_of, beside_of, framed, rest_of}
 use Rattle.session_runs.proofs.RestLaws.{same, same_one, asked_count, asked_ahead, asked_beside}
 
 -- how many questions are of an event
@@ -32,14 +32,15 @@ hits_append key (x ∷ xs) ys n =
 
 asked_framed : (i : ℕ) (inner : Rest) (last n : ℕ) → asked_count (framed i inner last) n ≡ asked_count inner n
 asked_framed i inner last n =
-    omega (arith, asked_ahead (leaf false i) (ahead_of inner (leaf false last)) n, asked_ahead inner (leaf false last) n)
+    omega (arith, asked_ahead (only_event false i) (ahead_of inner (only_event false last)) n, asked_ahead inner (only_event false last) n)
 
 pub hits_of : (key : List ℕ) (phrase : Term) (place : List ℕ) (i n : ℕ) → hits (questions_of key (events_of phrase place i)) n ≡ asked_count (rest_of phrase i) n
-hits_of key cpy place i n = refl
-hits_of key sig place i n = refl
-hits_of key hsh place i n = refl
-hits_of key (usm asp) place i n = omega arith
-hits_of key (kim target asp) place i n = omega arith
+hits_of key (leaf cpy) place i n = refl
+hits_of key (leaf sig) place i n = refl
+hits_of key (leaf hsh) place i n = refl
+hits_of key (leaf nul) place i n = refl
+hits_of key (leaf (usm asp)) place i n = omega arith
+hits_of key (leaf (kim target asp)) place i n = omega arith
 hits_of key (at asked body) place i n =
     omega (arith, asked_framed i (rest_of body (i + 1)) (i + 1 + event_count body) n, hits_of key body asked (i + 1) n, hits_append key (events_of body asked (i + 1)) (event (i + 1 + event_count body) (replies asked) place ∷ []) n)
 hits_of key (chain left right) place i n =

@@ -1,15 +1,15 @@
 -- A configuration is ready just where a step of its block is possible.
-use Rattle.std.proofs.Common.{◌≡◌, ℕ, ◌⊎◌, inl, inr, List, [], ◌∷◌, ◌++◌, refl, sym, ◌∙◌, subst}
+use Rattle.std.proofs.Common.{◌≡◌, ℕ, ◌⊎◌, inl, inr, List, [], ◌∷◌, ◌++◌, refl, sym, ◌∙◌, subst, ap}
 use Rattle.std.specs.Prelude.{Bool, true, false, not, Option, None, Some, nat_eq, if◌then◌else◌}
 use Rattle.std.proofs.lemmas.Bool.{eqb-true}
-use Rattle.phrase_tree.specs.Term.{Term, cpy, sig, hsh, usm, kim, at, chain, seq, par}
+use Rattle.phrase_tree.specs.Term.{Term, is_measurement, cpy, sig, hsh, nul, usm, kim, leaf, at, chain, seq, par}
 use Rattle.evidence_types.specs.Evidence.{Evidence, seq_pair, par_pair}
 use Rattle.session_model.specs.Value.{Makings}
 use Rattle.session_runs.specs.Configuration.{Configuration, todo, asked, posted, remote, first, left_arm, right_arm, both_arms, finished, start, once_finished, followed_by}
 use Rattle.session_runs.specs.Moves.{Step, run as run_step, ask as ask_step, in_block, Effect, silent, happens, sends, asks, answers, starts, Moved, on_run, on_ask, on_step, only_if, inside, or_else, todo_moves, own_moves, block_moves, inner_moves}
 use Rattle.session_runs.specs.Standing.{Block, of}
 use Rattle.session_runs.specs.MoveOrder.{Ready, ready_to, where_true, ready_phrase, ready_block, ready_in}
-use Rattle.session_runs.proofs.Induction.{Made, is_this, no_move, only_if_law, inside_law, or_else_law, once_finished_law, not_true}
+use Rattle.session_runs.proofs.Induction.{Made, is_this, no_move, only_if_law, inside_law, or_else_law, once_finished_law, not_true, either_law}
 use Rattle.session_runs.proofs.ProgressLaws.{IsGoing, until_own, first_made, second_made, inside_made, step_made, block_made}
 
 -- one of a list is of this block, step and event
@@ -66,11 +66,9 @@ until_inner from place (finished result) n step m A until then_do e = no_move (o
 
 module _ (from : Makings) where
   todo_ready : (place : List ℕ) (own : Block) (phrase : Term) (i : ℕ) (before : Evidence) (step : Step) (m : Made) → todo_moves from place phrase i before step ≡ Some m → IsReady (ready_phrase own phrase i) own step (event_in m.0)
-  todo_ready place own cpy i before step m e = run_with (λ s n. IsReady (ready_phrase own cpy i) own s (event_in n.0)) step _ _ m (inl (refl, refl, refl)) e
-  todo_ready place own sig i before step m e = run_with (λ s n. IsReady (ready_phrase own sig i) own s (event_in n.0)) step _ _ m (inl (refl, refl, refl)) e
-  todo_ready place own hsh i before step m e = run_with (λ s n. IsReady (ready_phrase own hsh i) own s (event_in n.0)) step _ _ m (inl (refl, refl, refl)) e
-  todo_ready place own (usm asp) i before step m e = ask_with (λ s n. IsReady (ready_phrase own (usm asp) i) own s (event_in n.0)) step _ _ m (inl (refl, refl, refl)) e
-  todo_ready place own (kim target asp) i before step m e = ask_with (λ s n. IsReady (ready_phrase own (kim target asp) i) own s (event_in n.0)) step _ _ m (inl (refl, refl, refl)) e
+  todo_ready place own (leaf form) i before step m e =
+      let by : Bool → Step = λ measured. if measured then ask_step else run_step in
+      either_law (λ s n. IsReady (ready_phrase own (leaf form) i) own s (event_in n.0)) (is_measurement form) step _ _ _ _ m (λ other. inl (refl, ap by other, refl)) (λ measured. inl (refl, ap by measured, refl)) e
   todo_ready place own (at asked_place body) i before step m e = run_with (λ s n. IsReady (ready_phrase own (at asked_place body) i) own s (event_in n.0)) step _ _ m (inl (refl, refl, refl)) e
   todo_ready place own (chain left right) i before step m e = no_move (IsReady [] own step (event_in m.0)) m e
   todo_ready place own (seq split left right) i before step m e = run_with (λ s n. IsReady (ready_phrase own (seq split left right) i) own s (event_in n.0)) step _ _ m (inl (refl, refl, refl)) e
@@ -199,11 +197,12 @@ module _ (from : Makings) where
   by_one place own c one of_event m block step event e (inr h) = absurd h
 
   todo_steps : (place : List ℕ) (own : Block) (phrase : Term) (i : ℕ) (before : Evidence) (block : Block) (step : Step) (event : Option ℕ) → IsReady (ready_phrase own phrase i) block step event → CanStep from place own (todo phrase i before) block step
-  todo_steps place own cpy i before block step event h = by_one place own (todo cpy i before) run_step (Some i) _ block step event refl h
-  todo_steps place own sig i before block step event h = by_one place own (todo sig i before) run_step (Some i) _ block step event refl h
-  todo_steps place own hsh i before block step event h = by_one place own (todo hsh i before) run_step (Some i) _ block step event refl h
-  todo_steps place own (usm asp) i before block step event h = by_one place own (todo (usm asp) i before) ask_step (Some i) _ block step event refl h
-  todo_steps place own (kim target asp) i before block step event h = by_one place own (todo (kim target asp) i before) ask_step (Some i) _ block step event refl h
+  todo_steps place own (leaf cpy) i before block step event h = by_one place own (todo (leaf cpy) i before) run_step (Some i) _ block step event refl h
+  todo_steps place own (leaf sig) i before block step event h = by_one place own (todo (leaf sig) i before) run_step (Some i) _ block step event refl h
+  todo_steps place own (leaf hsh) i before block step event h = by_one place own (todo (leaf hsh) i before) run_step (Some i) _ block step event refl h
+  todo_steps place own (leaf nul) i before block step event h = by_one place own (todo (leaf nul) i before) run_step (Some i) _ block step event refl h
+  todo_steps place own (leaf (usm asp)) i before block step event h = by_one place own (todo (leaf (usm asp)) i before) ask_step (Some i) _ block step event refl h
+  todo_steps place own (leaf (kim target asp)) i before block step event h = by_one place own (todo (leaf (kim target asp)) i before) ask_step (Some i) _ block step event refl h
   todo_steps place own (at asked_place body) i before block step event h = by_one place own (todo (at asked_place body) i before) run_step (Some i) _ block step event refl h
   todo_steps place own (chain left right) i before block step event h = absurd h
   todo_steps place own (seq split left right) i before block step event h = by_one place own (todo (seq split left right) i before) run_step (Some i) _ block step event refl h

@@ -18,7 +18,7 @@ use Rattle.session_runs.specs.Standing.{Entry, opened, played, answered, failed,
 use Rattle.session_runs.specs.History.{further, standing_after, IsResult, AreResults, IsLegal, answers_to, record_of}
 use Rattle.session_runs.proofs.Induction.{Made, IsLaw, Together, together}
 use Rattle.session_runs.proofs.EntryLaws.{Onward, moved, root_ended, faulted, starves, onward, after_state, after_configuration, some_is, FitsEntry, IsNoAnswer}
-use Rattle.session_runs.proofs.Rest.{Rest, none, leaf, ahead_of, beside_of, rest_of, rest, Takes, Follows, rest_start, Leaves, leaves, takes_ahead, takes_left, takes_right}
+use Rattle.session_runs.proofs.Rest.{Rest, none, only_event, ahead_of, beside_of, rest_of, rest, Takes, Follows, rest_start, Leaves, leaves, takes_ahead, takes_left, takes_right}
 use Rattle.session_runs.proofs.RestLaws.{same_one, same_none, same_is, count, asked_count, takes_asked, takes_has, asked_counted}
 use Rattle.session_runs.proofs.TraceLaws.{Told, told_opening, told_next, told_ready, phrase_once, phrase_has, occurs_from, contains_from}
 use Rattle.session_runs.proofs.Waiting.{flights, ask_count, Posts, Flies}
@@ -164,23 +164,23 @@ flight_comes (asked phrase i before) n h = record { left = none; takes = (same_i
 flight_comes (posted asked_place i body before) n h = absurd (omega arith)
 flight_comes (remote asked_place i last inner ended) n h =
     let w = flight_comes inner n h in
-    record { left = ahead_of w.left (leaf false last); takes = takes_ahead (rest inner) (leaf false last) true n w.left w.takes }
+    record { left = ahead_of w.left (only_event false last); takes = takes_ahead (rest inner) (only_event false last) true n w.left w.takes }
 flight_comes (first inner right i) n h =
     let w = flight_comes inner n h in
     record { left = ahead_of w.left (rest_of right i); takes = takes_ahead (rest inner) (rest_of right i) true n w.left w.takes }
 flight_comes (left_arm inner right i before last) n h =
     let w = flight_comes inner n h in
-    record { left = ahead_of (ahead_of w.left (rest_of right i)) (leaf false last); takes = takes_ahead (ahead_of (rest inner) (rest_of right i)) (leaf false last) true n (ahead_of w.left (rest_of right i)) (takes_ahead (rest inner) (rest_of right i) true n w.left w.takes) }
+    record { left = ahead_of (ahead_of w.left (rest_of right i)) (only_event false last); takes = takes_ahead (ahead_of (rest inner) (rest_of right i)) (only_event false last) true n (ahead_of w.left (rest_of right i)) (takes_ahead (rest inner) (rest_of right i) true n w.left w.takes) }
 flight_comes (right_arm left_result inner last) n h =
     let w = flight_comes inner n h in
-    record { left = ahead_of w.left (leaf false last); takes = takes_ahead (rest inner) (leaf false last) true n w.left w.takes }
+    record { left = ahead_of w.left (only_event false last); takes = takes_ahead (rest inner) (only_event false last) true n w.left w.takes }
 flight_comes (both_arms i last left right ended) n h = elim (cases_lt 0 (flights left n)) [
   | inl some ↦
       let w = flight_comes left n (omega (arith, some)) in
-      record { left = ahead_of (beside_of w.left (rest right)) (leaf false last); takes = takes_ahead (beside_of (rest left) (rest right)) (leaf false last) true n (beside_of w.left (rest right)) (takes_left (rest left) (rest right) true n w.left w.takes) }
+      record { left = ahead_of (beside_of w.left (rest right)) (only_event false last); takes = takes_ahead (beside_of (rest left) (rest right)) (only_event false last) true n (beside_of w.left (rest right)) (takes_left (rest left) (rest right) true n w.left w.takes) }
   | inr none_left ↦
       let w = flight_comes right n (omega (arith, none_left, h)) in
-      record { left = ahead_of (beside_of (rest left) w.left) (leaf false last); takes = takes_ahead (beside_of (rest left) (rest right)) (leaf false last) true n (beside_of (rest left) w.left) (takes_right (rest left) (rest right) true n w.left w.takes) }
+      record { left = ahead_of (beside_of (rest left) w.left) (only_event false last); takes = takes_ahead (beside_of (rest left) (rest right)) (only_event false last) true n (beside_of (rest left) w.left) (takes_right (rest left) (rest right) true n w.left w.takes) }
 ]
 flight_comes (finished result) n h = absurd (omega arith)
 

@@ -1,7 +1,7 @@
 -- What is left of the events of a configuration, with their order.
 use Rattle.std.proofs.Common.{◌≡◌, ℕ, ◌+◌, ◌⊎◌, inl, inr, refl, sym, ap, subst}
 use Rattle.std.specs.Prelude.{Bool, true, false, List}
-use Rattle.phrase_tree.specs.Term.{Term, cpy, sig, hsh, usm, kim, at, chain, seq, par}
+use Rattle.phrase_tree.specs.Term.{Term, is_measurement, leaf, at, chain, seq, par}
 use Rattle.phrase_tree.specs.Numbering.{event_count}
 use Rattle.evidence_types.specs.Evidence.{Evidence}
 use Rattle.session_model.specs.Value.{Makings, part}
@@ -12,32 +12,28 @@ use Rattle.session_runs.proofs.Induction.{IsLaw}
 -- nothing; an event, a measurement or not; all of one part ahead of the other; two parts in any order
 pub data Rest : Type 0 where
   none : Rest
-  leaf : Bool → ℕ → Rest
+  only_event : Bool → ℕ → Rest
   ahead : Rest → Rest → Rest
   beside : Rest → Rest → Rest
 
 abbrev pub ahead_of : Rest → Rest → Rest
 ahead_of none b = b
-ahead_of (leaf measured n) b = ahead (leaf measured n) b
+ahead_of (only_event measured n) b = ahead (only_event measured n) b
 ahead_of (ahead x y) b = ahead (ahead x y) b
 ahead_of (beside x y) b = ahead (beside x y) b
 
 abbrev pub beside_of : Rest → Rest → Rest
 beside_of none b = b
-beside_of (leaf measured n) b = beside (leaf measured n) b
+beside_of (only_event measured n) b = beside (only_event measured n) b
 beside_of (ahead x y) b = beside (ahead x y) b
 beside_of (beside x y) b = beside (beside x y) b
 
 -- a first and a last event around a part
 abbrev pub framed : ℕ → Rest → ℕ → Rest
-framed i inner last = ahead_of (leaf false i) (ahead_of inner (leaf false last))
+framed i inner last = ahead_of (only_event false i) (ahead_of inner (only_event false last))
 
 abbrev pub rest_of : Term → ℕ → Rest
-rest_of cpy i = leaf false i
-rest_of sig i = leaf false i
-rest_of hsh i = leaf false i
-rest_of (usm asp) i = leaf true i
-rest_of (kim target asp) i = leaf true i
+rest_of (leaf form) i = only_event (is_measurement form) i
 rest_of (at place body) i = framed i (rest_of body (i + 1)) (i + 1 + event_count body)
 rest_of (chain left right) i = ahead_of (rest_of left i) (rest_of right (i + event_count left))
 rest_of (seq split left right) i =
@@ -47,19 +43,19 @@ rest_of (par split left right) i =
 
 abbrev pub rest : Configuration → Rest
 rest (todo phrase i before) = rest_of phrase i
-rest (asked phrase i before) = leaf true i
-rest (posted asked_place i body before) = ahead_of (rest_of body (i + 1)) (leaf false (i + 1 + event_count body))
-rest (remote asked_place i last inner ended) = ahead_of (rest inner) (leaf false last)
+rest (asked phrase i before) = only_event true i
+rest (posted asked_place i body before) = ahead_of (rest_of body (i + 1)) (only_event false (i + 1 + event_count body))
+rest (remote asked_place i last inner ended) = ahead_of (rest inner) (only_event false last)
 rest (first inner right i) = ahead_of (rest inner) (rest_of right i)
-rest (left_arm inner right i before last) = ahead_of (ahead_of (rest inner) (rest_of right i)) (leaf false last)
-rest (right_arm left_result inner last) = ahead_of (rest inner) (leaf false last)
-rest (both_arms i last left right ended) = ahead_of (beside_of (rest left) (rest right)) (leaf false last)
+rest (left_arm inner right i before last) = ahead_of (ahead_of (rest inner) (rest_of right i)) (only_event false last)
+rest (right_arm left_result inner last) = ahead_of (rest inner) (only_event false last)
+rest (both_arms i last left right ended) = ahead_of (beside_of (rest left) (rest right)) (only_event false last)
 rest (finished result) = none
 
 -- an event comes off, a measurement or not, and leaves this
 abbrev pub Takes : Rest → Bool → ℕ → Rest → Type 0
 Takes none measured n r = ⊥
-Takes (leaf is_measured m) measured n r = (m ≡ n) × (is_measured ≡ measured) × (r ≡ none)
+Takes (only_event is_measured m) measured n r = (m ≡ n) × (is_measured ≡ measured) × (r ≡ none)
 Takes (ahead a b) measured n r = (a' : Rest) × Takes a measured n a' × (r ≡ ahead_of a' b)
 Takes (beside a b) measured n r =
     ((a' : Rest) × Takes a measured n a' × (r ≡ beside_of a' b))
@@ -75,11 +71,7 @@ Follows r (sends place n) r' = Takes r false n r'
 Follows r (answers n bytes) r' = Takes r true n r'
 
 pub rest_start : (phrase : Term) (i : ℕ) (before : Evidence) → rest (start phrase i before) ≡ rest_of phrase i
-rest_start cpy i before = refl
-rest_start sig i before = refl
-rest_start hsh i before = refl
-rest_start (usm asp) i before = refl
-rest_start (kim target asp) i before = refl
+rest_start (leaf form) i before = refl
 rest_start (at place body) i before = refl
 rest_start (chain left right) i before = ap (λ r. ahead_of r (rest_of right (i + event_count left))) (rest_start left i before)
 rest_start (seq split left right) i before = refl
@@ -98,19 +90,19 @@ rest_followed (finished result) right i = rest_start right i result
 
 pub takes_ahead : (a b : Rest) (measured : Bool) (n : ℕ) (a' : Rest) → Takes a measured n a' → Takes (ahead_of a b) measured n (ahead_of a' b)
 takes_ahead none b measured n a' h = absurd h
-takes_ahead (leaf m k) b measured n a' h = (a', h, refl)
+takes_ahead (only_event m k) b measured n a' h = (a', h, refl)
 takes_ahead (ahead x y) b measured n a' h = (a', h, refl)
 takes_ahead (beside x y) b measured n a' h = (a', h, refl)
 
 pub takes_left : (a b : Rest) (measured : Bool) (n : ℕ) (a' : Rest) → Takes a measured n a' → Takes (beside_of a b) measured n (beside_of a' b)
 takes_left none b measured n a' h = absurd h
-takes_left (leaf m k) b measured n a' h = inl (a', h, refl)
+takes_left (only_event m k) b measured n a' h = inl (a', h, refl)
 takes_left (ahead x y) b measured n a' h = inl (a', h, refl)
 takes_left (beside x y) b measured n a' h = inl (a', h, refl)
 
 pub takes_right : (a b : Rest) (measured : Bool) (n : ℕ) (b' : Rest) → Takes b measured n b' → Takes (beside_of a b) measured n (beside_of a b')
 takes_right none b measured n b' h = h
-takes_right (leaf m k) b measured n b' h = inr (b', h, refl)
+takes_right (only_event m k) b measured n b' h = inr (b', h, refl)
 takes_right (ahead x y) b measured n b' h = inr (b', h, refl)
 takes_right (beside x y) b measured n b' h = inr (b', h, refl)
 
@@ -144,27 +136,24 @@ Leaves place c effect d = Follows (rest c) effect (rest d)
 
 pub leaves : (from : Makings) → IsLaw from Leaves
 leaves from = record {
-  copies = λ place i before. (refl, refl, refl);
-  signs = λ place i before. (refl, refl, refl);
-  hashes = λ place i before. (refl, refl, refl);
-  asks_own = λ place asp i before. refl;
-  asks_target = λ place target asp i before. refl;
+  runs = λ place form i before other. (refl, other, refl);
+  asks_for = λ place form i before measured. ap (λ b. only_event b i) (sym measured);
   posts = λ place asked_place body i before. (none, (refl, refl, refl), refl);
-  splits = λ place split left right i before. (none, (refl, refl, refl), ap (λ r. ahead_of (ahead_of r (rest_of right (i + 1 + event_count left))) (leaf false (i + 1 + event_count left + event_count right))) (rest_start left (i + 1) (part split.left before)));
+  splits = λ place split left right i before. (none, (refl, refl, refl), ap (λ r. ahead_of (ahead_of r (rest_of right (i + 1 + event_count left))) (only_event false (i + 1 + event_count left + event_count right))) (rest_start left (i + 1) (part split.left before)));
   forks = λ place split left right i before.
-      (none, (refl, refl, refl), subst (λ r. ahead_of (beside_of (rest (start left (i + 1) (part split.left before))) (rest (start right (i + 1 + event_count left) (part split.right before)))) (leaf false (i + 1 + event_count left + event_count right)) ≡ ahead_of (beside_of r (rest_of right (i + 1 + event_count left))) (leaf false (i + 1 + event_count left + event_count right))) (rest_start left (i + 1) (part split.left before)) (ap (λ r. ahead_of (beside_of (rest (start left (i + 1) (part split.left before))) r) (leaf false (i + 1 + event_count left + event_count right))) (rest_start right (i + 1 + event_count left) (part split.right before))));
+      (none, (refl, refl, refl), subst (λ r. ahead_of (beside_of (rest (start left (i + 1) (part split.left before))) (rest (start right (i + 1 + event_count left) (part split.right before)))) (only_event false (i + 1 + event_count left + event_count right)) ≡ ahead_of (beside_of r (rest_of right (i + 1 + event_count left))) (only_event false (i + 1 + event_count left + event_count right))) (rest_start left (i + 1) (part split.left before)) (ap (λ r. ahead_of (beside_of (rest (start left (i + 1) (part split.left before))) r) (only_event false (i + 1 + event_count left + event_count right))) (rest_start right (i + 1 + event_count left) (part split.right before))));
   answered = λ place phrase i before bytes. (refl, refl, refl);
-  delivered = λ place asked_place i body before. ap (λ r. ahead_of r (leaf false (i + 1 + event_count body))) (rest_start body (i + 1) before);
+  delivered = λ place asked_place i body before. ap (λ r. ahead_of r (only_event false (i + 1 + event_count body))) (rest_start body (i + 1) before);
   ends_remote = λ place asked_place i last result. refl;
   replies = λ place asked_place i last result. (refl, refl, refl);
-  swaps = λ place result right i before last. ap (λ r. ahead_of r (leaf false last)) (rest_start right i before);
+  swaps = λ place result right i before last. ap (λ r. ahead_of r (only_event false last)) (rest_start right i before);
   joins_sequence = λ place left_result right_result last. (refl, refl, refl);
   ends_right = λ place i last left result. refl;
   joins_parallel = λ place i last left_result right_result. (refl, refl, refl);
-  in_remote = λ place asked_place i last c d effect over h. follows_ahead (rest c) (leaf false last) effect (rest d) h;
+  in_remote = λ place asked_place i last c d effect over h. follows_ahead (rest c) (only_event false last) effect (rest d) h;
   in_first = λ place c d effect right i h. subst (λ r. Follows (ahead_of (rest c) (rest_of right i)) effect r) (sym (rest_followed d right i)) (follows_ahead (rest c) (rest_of right i) effect (rest d) h);
-  in_left = λ place c d effect right i before last h. follows_ahead (ahead_of (rest c) (rest_of right i)) (leaf false last) effect (ahead_of (rest d) (rest_of right i)) (follows_ahead (rest c) (rest_of right i) effect (rest d) h);
-  in_right = λ place result c d effect last h. follows_ahead (rest c) (leaf false last) effect (rest d) h;
-  in_left_of_both = λ place i last c d right effect over h. follows_ahead (beside_of (rest c) (rest right)) (leaf false last) effect (beside_of (rest d) (rest right)) (follows_left (rest c) (rest right) effect (rest d) h);
-  in_right_of_both = λ place i last left c d effect over h. follows_ahead (beside_of (rest left) (rest c)) (leaf false last) effect (beside_of (rest left) (rest d)) (follows_right (rest left) (rest c) effect (rest d) h);
+  in_left = λ place c d effect right i before last h. follows_ahead (ahead_of (rest c) (rest_of right i)) (only_event false last) effect (ahead_of (rest d) (rest_of right i)) (follows_ahead (rest c) (rest_of right i) effect (rest d) h);
+  in_right = λ place result c d effect last h. follows_ahead (rest c) (only_event false last) effect (rest d) h;
+  in_left_of_both = λ place i last c d right effect over h. follows_ahead (beside_of (rest c) (rest right)) (only_event false last) effect (beside_of (rest d) (rest right)) (follows_left (rest c) (rest right) effect (rest d) h);
+  in_right_of_both = λ place i last left c d effect over h. follows_ahead (beside_of (rest left) (rest c)) (only_event false last) effect (beside_of (rest left) (rest d)) (follows_right (rest left) (rest c) effect (rest d) h);
 }

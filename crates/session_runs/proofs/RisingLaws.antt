@@ -2,7 +2,7 @@
 use Rattle.std.proofs.Common.{◌≡◌, ℕ, zero, suc, ◌+◌, ◌-◌, ◌≤◌, ◌<◌, ◌⊎◌, inl, inr, List, [], ◌∷◌, ◌++◌, length, refl, sym, ◌∙◌, ap, subst, arith, length-append}
 use Rattle.std.specs.Prelude.{Bool, true, false, Option, None, Some, Result, Ok, Err, nat_eq, nat_lt, if◌then◌else◌}
 use Rattle.std.proofs.lemmas.Bool.{cases_lt, eq-eqb, ltb-true, ltb-false}
-use Rattle.phrase_tree.specs.Term.{Term, cpy, sig, hsh, usm, kim, at, chain, seq, par}
+use Rattle.phrase_tree.specs.Term.{Term, leaf, at, chain, seq, par}
 use Rattle.phrase_tree.specs.Numbering.{event_count}
 use Rattle.evidence_types.specs.Evidence.{nonce}
 use Rattle.bench_trait.specs.declared.bench.MeasureError.{MeasureError}
@@ -13,13 +13,13 @@ use Rattle.session_runs.specs.Configuration.{Configuration, todo, asked, posted,
 use Rattle.session_runs.specs.Moves.{Step, run as run_step, ask as ask_step, in_block, answer, delivery, starts, answers, Moved, own_moves, inner_moves}
 use Rattle.session_runs.specs.Standing.{Block, root, of, Move, run, ask, deliver, Entry, played, answered, failed, starved, State, is_open, is_done, has_failed, has_starved, Standing, makings, front, without_ask, is_in_flight, after, made, delivered, played_on, entered, next}
 use Rattle.session_runs.specs.History.{standing_after}
-use Rattle.session_runs.specs.MoveOrder.{Ready, ready_to, where_true, ready_phrase, ready_block, ready_in, ready_of, rank, ranked, put_event, put_silent, silent_ones, event_ones, move_by, moves_by, deliveries, moves_where, possible_moves, asks_in_order}
+use Rattle.session_runs.specs.MoveOrder.{Ready, ready_to, where_true, ready_phrase, ready_block, ready_in, ready_of, rank, ranked, put_event, put_silent, silent_ones, event_ones, move_by, moves_by, deliveries, moves_where, possible_moves, asks_in_order, leaf_step}
 use Rattle.session_runs.specs.Progress.{Adds}
 use Rattle.session_runs.specs.Schedule.{Draw, drawn_of, draw, Walked, all_opened, result_entry, results_first, candidates, is_running, with_entry, nth_entry, with_choice, chosen, Round, ahead, moved_on, one_round, rounds, open_count, one_starves, entries_at_most, first_from, scheduled}
 use Rattle.session_runs.specs.Played.{AsksOnly, AskOnly}
 use Rattle.session_runs.specs.Rising.{FailsAt, AreRising}
 use Rattle.session_runs.proofs.EntryLaws.{Onward, moved, root_ended, faulted, starves, onward, some_is, made_is, no_standing, once_finished_any, where_open_is, if_standing, after_state, after_configuration, inner_effect}
-use Rattle.session_runs.proofs.Rest.{Rest, leaf, ahead_of, beside_of, rest_of, rest, rest_start, Leaves, leaves}
+use Rattle.session_runs.proofs.Rest.{Rest, only_event, ahead_of, beside_of, rest_of, rest, rest_start, Leaves, leaves}
 use Rattle.session_runs.proofs.RestLaws.{same_one, same_none, count, count_ahead, count_beside, covers_phrase}
 use Rattle.session_runs.proofs.TraceLaws.{occurrences, occurrences_more, Told, told_after_history, phrase_once, phrase_has, phrase_within, kept_after}
 use Rattle.session_runs.proofs.Waiting.{ask_count}
@@ -72,11 +72,7 @@ end_left Q i true block step n h = absurd h
 end_left Q i false block step n h = none_left Q (of i) run_step block step n h
 
 some_event : (phrase : Term) → 1 ≤ event_count phrase
-some_event cpy = omega arith
-some_event sig = omega arith
-some_event hsh = omega arith
-some_event (usm asp) = omega arith
-some_event (kim target asp) = omega arith
+some_event (leaf form) = omega arith
 some_event (at place body) = omega arith
 some_event (chain left right) = omega (arith, some_event left)
 some_event (seq split left right) = omega arith
@@ -86,18 +82,14 @@ first_left : (phrase : Term) (i : ℕ) → 1 ≤ count (rest_of phrase i) i
 first_left phrase i = omega (arith, (covers_phrase phrase i i).inside (omega arith) (omega (arith, some_event phrase)))
 
 phrase_left : (own : Block) (phrase : Term) (i : ℕ) (block : Block) (step : Step) (n : ℕ) → IsReady (ready_phrase own phrase i) block step (Some n) → 1 ≤ count (rest_of phrase i) n
-phrase_left own cpy i block step n h = one_left (rest_of cpy i) own run_step i block step n (first_left cpy i) h
-phrase_left own sig i block step n h = one_left (rest_of sig i) own run_step i block step n (first_left sig i) h
-phrase_left own hsh i block step n h = one_left (rest_of hsh i) own run_step i block step n (first_left hsh i) h
-phrase_left own (usm asp) i block step n h = one_left (rest_of (usm asp) i) own ask_step i block step n (first_left (usm asp) i) h
-phrase_left own (kim target asp) i block step n h = one_left (rest_of (kim target asp) i) own ask_step i block step n (first_left (kim target asp) i) h
+phrase_left own (leaf form) i block step n h = one_left (rest_of (leaf form) i) own (leaf_step form) i block step n (first_left (leaf form) i) h
 phrase_left own (at place body) i block step n h = one_left (rest_of (at place body) i) own run_step i block step n (first_left (at place body) i) h
 phrase_left own (chain left right) i block step n h = absurd h
 phrase_left own (seq split left right) i block step n h = one_left (rest_of (seq split left right) i) own run_step i block step n (first_left (seq split left right) i) h
 phrase_left own (par split left right) i block step n h = one_left (rest_of (par split left right) i) own run_step i block step n (first_left (par split left right) i) h
 
-last_left : (a : Rest) (last : ℕ) → 1 ≤ count (ahead_of a (leaf false last)) last
-last_left a last = omega (arith, count_ahead a (leaf false last) last, same_one last last refl)
+last_left : (a : Rest) (last : ℕ) → 1 ≤ count (ahead_of a (only_event false last)) last
+last_left a last = omega (arith, count_ahead a (only_event false last) last, same_one last last refl)
 
 event_left : (own : Block) (c : Configuration) (block : Block) (step : Step) (n : ℕ) → IsReady (ready_in own c) block step (Some n) → 1 ≤ count (rest c) n
 event_left own (todo phrase i before) block step n h = phrase_left own phrase i block step n h
@@ -107,7 +99,7 @@ event_left own (remote asked_place i last inner ended) block step n h =
     elim (ready_split (ready_block i inner ended (ready_in (of i) inner)) (once_finished inner [] (λ result. where_true ended (ready_to own run_step (Some last)))) block step (Some n) h) [
       | inl below ↦
           once_ready (1 ≤ count (rest (remote asked_place i last inner ended)) n) inner (ready_in (of i) inner) (λ result. if ended then [] else ready_to (of i) run_step None) block step (Some n)
-          (λ going k. omega (arith, event_left (of i) inner block step n k, count_ahead (rest inner) (leaf false last) n))
+          (λ going k. omega (arith, event_left (of i) inner block step n k, count_ahead (rest inner) (only_event false last) n))
           (λ result is k. end_left (1 ≤ count (rest (remote asked_place i last inner ended)) n) i ended block step n k)
           below
       | inr reply ↦
@@ -120,19 +112,19 @@ event_left own (first inner right i) block step n h =
     omega (arith, event_left own inner block step n h, count_ahead (rest inner) (rest_of right i) n)
 event_left own (left_arm inner right i before last) block step n h =
     once_ready (1 ≤ count (rest (left_arm inner right i before last)) n) inner (ready_in own inner) (λ result. ready_to own run_step None) block step (Some n)
-    (λ going k. omega (arith, event_left own inner block step n k, count_ahead (rest inner) (rest_of right i) n, count_ahead (ahead_of (rest inner) (rest_of right i)) (leaf false last) n))
+    (λ going k. omega (arith, event_left own inner block step n k, count_ahead (rest inner) (rest_of right i) n, count_ahead (ahead_of (rest inner) (rest_of right i)) (only_event false last) n))
     (λ result is k. none_left (1 ≤ count (rest (left_arm inner right i before last)) n) own run_step block step n k)
     h
 event_left own (right_arm left_result inner last) block step n h =
     once_ready (1 ≤ count (rest (right_arm left_result inner last)) n) inner (ready_in own inner) (λ result. ready_to own run_step (Some last)) block step (Some n)
-    (λ going k. omega (arith, event_left own inner block step n k, count_ahead (rest inner) (leaf false last) n))
+    (λ going k. omega (arith, event_left own inner block step n k, count_ahead (rest inner) (only_event false last) n))
     (λ result is k. one_left (rest (right_arm left_result inner last)) own run_step last block step n (last_left (rest inner) last) k)
     h
 event_left own (both_arms i last left right ended) block step n h =
     elim (ready_split (once_finished left (ready_in own left) (λ left_result. once_finished right [] (λ right_result. where_true ended (ready_to own run_step (Some last))))) (ready_block i right ended (ready_in (of i) right)) block step (Some n) h) [
       | inl mine ↦
           once_ready (1 ≤ count (rest (both_arms i last left right ended)) n) left (ready_in own left) (λ left_result. once_finished right [] (λ right_result. where_true ended (ready_to own run_step (Some last)))) block step (Some n)
-          (λ going k. omega (arith, event_left own left block step n k, count_beside (rest left) (rest right) n, count_ahead (beside_of (rest left) (rest right)) (leaf false last) n))
+          (λ going k. omega (arith, event_left own left block step n k, count_beside (rest left) (rest right) n, count_ahead (beside_of (rest left) (rest right)) (only_event false last) n))
           (λ left_result left_is k. once_ready (1 ≤ count (rest (both_arms i last left right ended)) n) right [] (λ right_result. where_true ended (ready_to own run_step (Some last))) block step (Some n)
           (λ going j. absurd j)
           (λ right_result right_is j. where_left (rest (both_arms i last left right ended)) ended own last block step n (last_left (beside_of (rest left) (rest right)) last) j)
@@ -140,7 +132,7 @@ event_left own (both_arms i last left right ended) block step n h =
           mine
       | inr below ↦
           once_ready (1 ≤ count (rest (both_arms i last left right ended)) n) right (ready_in (of i) right) (λ result. if ended then [] else ready_to (of i) run_step None) block step (Some n)
-          (λ going k. omega (arith, event_left (of i) right block step n k, count_beside (rest left) (rest right) n, count_ahead (beside_of (rest left) (rest right)) (leaf false last) n))
+          (λ going k. omega (arith, event_left (of i) right block step n k, count_beside (rest left) (rest right) n, count_ahead (beside_of (rest left) (rest right)) (only_event false last) n))
           (λ result is k. end_left (1 ≤ count (rest (both_arms i last left right ended)) n) i ended block step n k)
           below
     ]

@@ -1,14 +1,14 @@
 -- What a step does: a block that asks only asks, and one that runs on doesn't ask.
 use Rattle.std.proofs.Common.{◌≡◌, ℕ, List, refl}
 use Rattle.std.specs.Prelude.{Bool, true, not, None, Some}
-use Rattle.phrase_tree.specs.Term.{Term, cpy, sig, hsh, usm, kim, at, chain, seq, par}
+use Rattle.phrase_tree.specs.Term.{Term, is_measurement, leaf, at, chain, seq, par}
 use Rattle.evidence_types.specs.Evidence.{Evidence, seq_pair, par_pair}
 use Rattle.session_model.specs.Value.{Makings}
 use Rattle.session_runs.specs.Configuration.{Configuration, todo, asked, posted, remote, first, left_arm, right_arm, both_arms, finished, start, once_finished, followed_by}
 use Rattle.session_runs.specs.Moves.{Step, run as run_step, ask as ask_step, in_block, Effect, silent, happens, sends, asks, answers, starts, on_run, on_step, only_if, inside, or_else, todo_moves, own_moves, block_moves, inner_moves}
 use Rattle.session_runs.specs.Standing.{Standing, after}
 use Rattle.session_runs.specs.Progress.{Adds}
-use Rattle.session_runs.proofs.Induction.{Made, no_move, only_if_law, inside_law, or_else_law, once_finished_law}
+use Rattle.session_runs.proofs.Induction.{Made, no_move, only_if_law, inside_law, or_else_law, once_finished_law, either_law}
 use Rattle.session_runs.proofs.ReadyLaws.{event_in, run_with, ask_with, step_is}
 
 -- the effects of a step
@@ -21,11 +21,7 @@ FitsStep _ _ = ⊥
 
 module _ (from : Makings) where
   todo_fits : (place : List ℕ) (phrase : Term) (i : ℕ) (before : Evidence) (step : Step) (m : Made) → todo_moves from place phrase i before step ≡ Some m → FitsStep step m.0
-  todo_fits place cpy i before step m e = run_with (λ s n. FitsStep s n.0) step _ _ m tt e
-  todo_fits place sig i before step m e = run_with (λ s n. FitsStep s n.0) step _ _ m tt e
-  todo_fits place hsh i before step m e = run_with (λ s n. FitsStep s n.0) step _ _ m tt e
-  todo_fits place (usm asp) i before step m e = ask_with (λ s n. FitsStep s n.0) step _ _ m tt e
-  todo_fits place (kim target asp) i before step m e = ask_with (λ s n. FitsStep s n.0) step _ _ m tt e
+  todo_fits place (leaf form) i before step m e = either_law (λ s n. FitsStep s n.0) (is_measurement form) step _ _ _ _ m (λ h. tt) (λ h. tt) e
   todo_fits place (at asked_place body) i before step m e = run_with (λ s n. FitsStep s n.0) step _ _ m tt e
   todo_fits place (chain left right) i before step m e = no_move (FitsStep step m.0) m e
   todo_fits place (seq split left right) i before step m e = run_with (λ s n. FitsStep s n.0) step _ _ m tt e

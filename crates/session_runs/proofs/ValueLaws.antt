@@ -1,10 +1,10 @@
 -- What a configuration comes to: each move leaves it as it is.
-use Rattle.std.proofs.Common.{◌≡◌, ℕ, ◌+◌, List, refl, sym, ◌∙◌, ap}
-use Rattle.phrase_tree.specs.Term.{Term, cpy, sig, hsh, usm, kim, at, chain, seq, par}
+use Rattle.std.proofs.Common.{◌≡◌, ℕ, ◌+◌, List, refl, sym, ◌∙◌, ap, true, false}
+use Rattle.phrase_tree.specs.Term.{Term, Leaf, cpy, sig, hsh, nul, usm, kim, is_measurement, leaf, at, chain, seq, par}
 use Rattle.phrase_tree.specs.Numbering.{event_count}
 use Rattle.evidence_types.specs.Answers.{answer_at}
 use Rattle.evidence_types.specs.Evidence.{Evidence, seq_pair, par_pair}
-use Rattle.session_model.specs.Value.{Makings, part, value_of}
+use Rattle.session_model.specs.Value.{Makings, part, value_of, leaf_value}
 use Rattle.session_runs.specs.Configuration.{Configuration, todo, asked, posted, remote, first, left_arm, right_arm, both_arms, finished, start, measurement, followed_by}
 use Rattle.session_runs.specs.Moves.{Effect, answers}
 use Rattle.session_runs.proofs.Induction.{IsLaw}
@@ -26,11 +26,7 @@ value_left (both_arms i last left right ended) place from = par_pair (value_left
 value_left (finished result) place from = result
 
 pub start_value : (phrase : Term) (place : List ℕ) (i : ℕ) (before : Evidence) (from : Makings) → value_left (start phrase i before) place from ≡ value_of phrase place i before from
-start_value cpy place i before from = refl
-start_value sig place i before from = refl
-start_value hsh place i before from = refl
-start_value (usm asp) place i before from = refl
-start_value (kim target asp) place i before from = refl
+start_value (leaf form) place i before from = refl
 start_value (at asked_place body) place i before from = refl
 start_value (chain left right) place i before from = ap (λ v. value_of right place (i + event_count left) v from) (start_value left place i before from)
 start_value (seq split left right) place i before from = refl
@@ -47,6 +43,24 @@ followed_value (right_arm left_result inner last) right i place from = refl
 followed_value (both_arms j last left other ended) right i place from = refl
 followed_value (finished result) right i place from = start_value right place i result from
 
+-- the value of a leaf that isn't measured is the same with other answers
+same_value : (given : List (ℕ × List ℕ)) (from : Makings) (form : Leaf) (place : List ℕ) (i : ℕ) (before : Evidence) → is_measurement form ≡ false → leaf_value form place i before from ≡ leaf_value form place i before (answered_by given from)
+same_value given from cpy place i before other = refl
+same_value given from sig place i before other = refl
+same_value given from hsh place i before other = refl
+same_value given from nul place i before other = refl
+same_value given from (usm asp) place i before other = absurd (cc)
+same_value given from (kim target asp) place i before other = absurd (cc)
+
+-- and that of one that is measured is what its answer makes
+asked_value : (from : Makings) (form : Leaf) (place : List ℕ) (i : ℕ) (before : Evidence) → is_measurement form ≡ true → measurement form i (answer_at from.answers i) before ≡ leaf_value form place i before from
+asked_value from cpy place i before measured = absurd (cc)
+asked_value from sig place i before measured = absurd (cc)
+asked_value from hsh place i before measured = absurd (cc)
+asked_value from nul place i before measured = absurd (cc)
+asked_value from (usm asp) place i before measured = refl
+asked_value from (kim target asp) place i before measured = refl
+
 -- the answers have the effect's answer
 abbrev pub Agrees : Effect → List (ℕ × List ℕ) → Type 0
 Agrees (answers n bytes) given = answer_at given n ≡ bytes
@@ -58,11 +72,8 @@ KeepsValue from place c effect d =
 
 pub value_law : (from : Makings) → IsLaw from (KeepsValue from)
 value_law from = record {
-  copies = λ place i before given a. refl;
-  signs = λ place i before given a. refl;
-  hashes = λ place i before given a. refl;
-  asks_own = λ place asp i before given a. refl;
-  asks_target = λ place target asp i before given a. refl;
+  runs = λ place form i before other given a. same_value given from form place i before other;
+  asks_for = λ place form i before measured given a. asked_value (answered_by given from) form place i before measured;
   posts = λ place asked_place body i before given a. refl;
   splits = λ place split left right i before given a. ap (λ v. seq_pair v (value_of right place (i + 1 + event_count left) (part split.right before) (answered_by given from))) (start_value left place (i + 1) (part split.left before) (answered_by given from));
   forks = λ place split left right i before given a.

@@ -2,7 +2,7 @@
 use Rattle.std.proofs.Common.{◌≡◌, ℕ, ◌+◌, ◌≤◌, inl, inr, List, [], ◌∷◌, ◌++◌, refl, sym, ap, arith}
 use Rattle.std.specs.Prelude.{if◌then◌else◌}
 use Rattle.std.proofs.lemmas.Bool.{cases_eq, eq-eqb, ne_eqb}
-use Rattle.phrase_tree.specs.Term.{Term, cpy, sig, hsh, usm, kim, at, chain, seq, par}
+use Rattle.phrase_tree.specs.Term.{Term, leaf, at, chain, seq, par}
 use Rattle.phrase_tree.specs.Numbering.{event_count}
 use Rattle.evidence_types.specs.Evidence.{Evidence, nonce}
 use Rattle.session_model.specs.Session.{Session}
@@ -38,22 +38,14 @@ flights (both_arms i last left right ended) n = flights left n + flights right n
 flights (finished result) n = 0
 
 start_posts : (phrase : Term) (i : ℕ) (before : Evidence) (n : ℕ) → posts (start phrase i before) n ≡ 0
-start_posts cpy i before n = refl
-start_posts sig i before n = refl
-start_posts hsh i before n = refl
-start_posts (usm asp) i before n = refl
-start_posts (kim target asp) i before n = refl
+start_posts (leaf form) i before n = refl
 start_posts (at place body) i before n = refl
 start_posts (chain left right) i before n = start_posts left i before n
 start_posts (seq split left right) i before n = refl
 start_posts (par split left right) i before n = refl
 
 start_flights : (phrase : Term) (i : ℕ) (before : Evidence) (n : ℕ) → flights (start phrase i before) n ≡ 0
-start_flights cpy i before n = refl
-start_flights sig i before n = refl
-start_flights hsh i before n = refl
-start_flights (usm asp) i before n = refl
-start_flights (kim target asp) i before n = refl
+start_flights (leaf form) i before n = refl
 start_flights (at place body) i before n = refl
 start_flights (chain left right) i before n = start_flights left i before n
 start_flights (seq split left right) i before n = refl
@@ -107,11 +99,8 @@ Flies place c effect d = (n : ℕ) → flights d n + answering effect n ≡ flig
 
 pub posts_law : (from : Makings) → IsLaw from Posts
 posts_law from = record {
-  copies = λ place i before n. refl;
-  signs = λ place i before n. refl;
-  hashes = λ place i before n. refl;
-  asks_own = λ place asp i before n. refl;
-  asks_target = λ place target asp i before n. refl;
+  runs = λ place form i before other n. refl;
+  asks_for = λ place form i before measured n. refl;
   posts = λ place asked_place body i before n. omega arith;
   splits = λ place split left right i before n. omega (arith, start_posts left (i + 1) (part split.left before) n);
   forks = λ place split left right i before n. omega (arith, start_posts left (i + 1) (part split.left before) n, start_posts right (i + 1 + event_count left) (part split.right before) n);
@@ -133,11 +122,8 @@ posts_law from = record {
 
 pub flies_law : (from : Makings) → IsLaw from Flies
 flies_law from = record {
-  copies = λ place i before n. refl;
-  signs = λ place i before n. refl;
-  hashes = λ place i before n. refl;
-  asks_own = λ place asp i before n. omega arith;
-  asks_target = λ place target asp i before n. omega arith;
+  runs = λ place form i before other n. refl;
+  asks_for = λ place form i before measured n. omega arith;
   posts = λ place asked_place body i before n. refl;
   splits = λ place split left right i before n. omega (arith, start_flights left (i + 1) (part split.left before) n);
   forks = λ place split left right i before n. omega (arith, start_flights left (i + 1) (part split.left before) n, start_flights right (i + 1 + event_count left) (part split.right before) n);

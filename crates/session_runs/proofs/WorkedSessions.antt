@@ -3,7 +3,7 @@ use Rattle.std.proofs.Common.{◌≡◌, ℕ, zero, suc, List, [], ◌∷◌, �
 use Rattle.std.specs.Prelude.{codes, true, false, Option, None, Some}
 use Rattle.phrase_tree.specs.declared.measurement.Asp.{Asp}
 use Rattle.phrase_tree.specs.declared.phrase.Split.{Split}
-use Rattle.phrase_tree.specs.Term.{Term, cpy, sig, hsh, usm, kim, at, chain, seq, par}
+use Rattle.phrase_tree.specs.Term.{Term, cpy, sig, hsh, usm, kim, leaf, at, chain, seq, par}
 use Rattle.bench_trait.specs.declared.bench.BenchFault.TheVariants.{NoArtefact, Broken}
 use Rattle.evidence_types.specs.Bytes.{encoding}
 use Rattle.evidence_types.specs.Evidence.{nonce, kim as measured_at, seal, hash, par_pair}
@@ -53,7 +53,7 @@ entries_from (pair ∷ asks) moves = answered 0 pair.0 (answer_of pair.0) ∷ en
 
 -- two measurements in parallel
 abbrev in_parallel : Session
-in_parallel = session_of (par to_left (usm (plain (codes "a"))) (usm (plain (codes "b"))))
+in_parallel = session_of (par to_left (leaf (usm (plain (codes "a")))) (leaf (usm (plain (codes "b")))))
 
 abbrev traces_where : (Standing → List (List ℕ)) → Option Standing → List (List ℕ)
 traces_where traces None = []
@@ -80,14 +80,14 @@ every_order = refl
 
 -- two measurements in sequence
 abbrev in_sequence : Session
-in_sequence = session_of (seq to_right (usm (plain (codes "a"))) (usm (plain (codes "b"))))
+in_sequence = session_of (seq to_right (leaf (usm (plain (codes "a")))) (leaf (usm (plain (codes "b")))))
 
 one_order : all_traces 12 in_sequence (opening in_sequence) ≡ (0 ∷ 1 ∷ 2 ∷ 3 ∷ []) ∷ []
 one_order = refl
 
 -- requests there and back: two blocks are alive at one place
 abbrev there_and_back : Session
-there_and_back = session_of (at q (at bank (at q cpy)))
+there_and_back = session_of (at q (at bank (at q (leaf cpy))))
 
 one_way : all_traces 16 there_and_back (opening there_and_back) ≡ (0 ∷ 1 ∷ 2 ∷ 3 ∷ 4 ∷ 5 ∷ 6 ∷ []) ∷ []
 one_way = refl
@@ -115,7 +115,7 @@ failed_ahead = refl
 
 -- (USM a +~+ USM b) +~- USM scan
 abbrev three : Session
-three = session_of (par to_left (par to_both (usm (plain (codes "a"))) (usm (plain (codes "b")))) (usm (plain (codes "scan"))))
+three = session_of (par to_left (par to_both (leaf (usm (plain (codes "a")))) (leaf (usm (plain (codes "b"))))) (leaf (usm (plain (codes "scan")))))
 
 -- all three are asked for, and the last fails
 abbrev all_asked : List Entry
@@ -148,7 +148,7 @@ owners_of_three = refl
 
 -- what a request runs is sealed at the place that is asked, with that place's key
 measured_and_sealed : Session
-measured_and_sealed = session_of (at q (chain (kim bank (plain (codes "a"))) sig))
+measured_and_sealed = session_of (at q (chain (leaf (kim bank (plain (codes "a")))) (leaf sig)))
 
 abbrev two_keys : List (List ℕ × List ℕ)
 two_keys = (bank, 1 ∷ []) ∷ (q, 2 ∷ []) ∷ []
@@ -162,8 +162,8 @@ unfolding measured_and_sealed
 sealed_there = refl
 
 -- so is what its right arm seals in a block of its own
-sealed_beside : state_after (standing_after (session_of (at q (par to_both cpy sig))) two_keys (opened ∷ played 0 (run root) ∷ played 0 (deliver q) ∷ played 0 (run (of 0)) ∷ played 0 (run (of 1)) ∷ played 0 (run (of 1)) ∷ played 0 (run (of 0)) ∷ played 0 (run (of 0)) ∷ played 0 (run (of 0)) ∷ played 0 (run root) ∷ played 0 (run root) ∷ [])) ≡ Some (is_done (par_pair (nonce first_nonce) (seal 3 (seal_of (key_at two_keys q) q first_nonce 3 (encoding (nonce first_nonce))) (nonce first_nonce))))
+sealed_beside : state_after (standing_after (session_of (at q (par to_both (leaf cpy) (leaf sig)))) two_keys (opened ∷ played 0 (run root) ∷ played 0 (deliver q) ∷ played 0 (run (of 0)) ∷ played 0 (run (of 1)) ∷ played 0 (run (of 1)) ∷ played 0 (run (of 0)) ∷ played 0 (run (of 0)) ∷ played 0 (run (of 0)) ∷ played 0 (run root) ∷ played 0 (run root) ∷ [])) ≡ Some (is_done (par_pair (nonce first_nonce) (seal 3 (seal_of (key_at two_keys q) q first_nonce 3 (encoding (nonce first_nonce))) (nonce first_nonce))))
 sealed_beside = refl
 
-hashed : state_after (standing_after (session_of hsh) [] (opened ∷ played 0 (run root) ∷ played 0 (run root) ∷ [])) ≡ Some (is_done (hash 0 (hash_of (encoding (nonce first_nonce)))))
+hashed : state_after (standing_after (session_of (leaf hsh)) [] (opened ∷ played 0 (run root) ∷ played 0 (run root) ∷ [])) ≡ Some (is_done (hash 0 (hash_of (encoding (nonce first_nonce)))))
 hashed = refl

@@ -1,6 +1,6 @@
 -- Partly executed phrases (after the small steps of POST 2019; the configurations are this project's own).
 use Rattle.std.specs.Prelude.{◌+◌, ℕ, Bool, List}
-use Rattle.phrase_tree.specs.Term.{Term, usm, kim, chain}
+use Rattle.phrase_tree.specs.Term.{Term, Leaf, usm, kim, chain}
 use Rattle.phrase_tree.specs.Numbering.{event_count}
 use Rattle.evidence_types.specs.Evidence.{Evidence, usm as measured, kim as measured_at}
 
@@ -9,7 +9,7 @@ pub data Configuration : Type 0 where
   -- nothing of a phrase has happened: the phrase, its first number, the evidence before it
   todo : Term → ℕ → Evidence → Configuration
   -- the measurement is asked for, and its event is still to come
-  asked : Term → ℕ → Evidence → Configuration
+  asked : Leaf → ℕ → Evidence → Configuration
   -- a request that waits in the list of the place that is asked: the place, its number, what is to run, the evidence
   posted : List ℕ → ℕ → Term → Evidence → Configuration
   -- a request whose block runs at the place that is asked: the place, its number, its last number, how far the block is, and whether it has ended
@@ -31,7 +31,7 @@ start (chain left right) i before = first (start left i before) right (i + event
 start phrase i before = todo phrase i before
 
 -- what a measurement makes of the evidence before it
-abbrev pub measurement : Term → ℕ → List ℕ → Evidence → Evidence
+abbrev pub measurement : Leaf → ℕ → List ℕ → Evidence → Evidence
 measurement (usm asp) i answer before = measured i answer before
 measurement (kim target asp) i answer before = measured_at i answer before
 measurement _ i answer before = before

@@ -1,6 +1,6 @@
 -- The order in which a session's possible moves and its asks in flight are listed (this project's own).
 use Rattle.std.specs.Prelude.{◌+◌, ℕ, Bool, true, false, List, [], ◌∷◌, ◌++◌, Option, None, Some, nat_lt, if◌then◌else◌}
-use Rattle.phrase_tree.specs.Term.{Term, usm, kim, chain}
+use Rattle.phrase_tree.specs.Term.{Term, Leaf, is_measurement, leaf, chain}
 use Rattle.session_runs.specs.Configuration.{Configuration, todo, asked, posted, remote, first, left_arm, right_arm, both_arms, finished, once_finished}
 use Rattle.session_runs.specs.Moves.{Step, run as run_step, ask as ask_step}
 use Rattle.session_runs.specs.Standing.{Block, root, of, Move, run, ask, deliver, State, is_open, Standing, front}
@@ -20,10 +20,13 @@ abbrev pub where_true : Bool → List Ready → List Ready
 where_true true ready = ready
 where_true false ready = []
 
+-- a measurement is asked for, and another leaf runs
+abbrev pub leaf_step : Leaf → Step
+leaf_step form = if is_measurement form then ask_step else run_step
+
 -- of a phrase of which nothing has happened; a chain starts as its left part
 abbrev pub ready_phrase : Block → Term → ℕ → List Ready
-ready_phrase block (usm asp) i = ready_to block ask_step (Some i)
-ready_phrase block (kim target asp) i = ready_to block ask_step (Some i)
+ready_phrase block (leaf form) i = ready_to block (leaf_step form) (Some i)
 ready_phrase block (chain left right) i = []
 ready_phrase block _ i = ready_to block run_step (Some i)
 

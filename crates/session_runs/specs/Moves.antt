@@ -1,10 +1,10 @@
 -- The moves of a partly executed phrase, and what follows each (after the small steps of POST 2019; blocks,
 -- deliveries and answers are this project's own).
 use Rattle.std.specs.Prelude.{◌+◌, ℕ, Bool, true, false, List, Option, None, Some, not, nat_eq, if◌then◌else◌}
-use Rattle.phrase_tree.specs.Term.{Term, cpy, sig, hsh, usm, kim, at, chain, seq, par}
+use Rattle.phrase_tree.specs.Term.{Term, is_measurement, leaf, at, chain, seq, par}
 use Rattle.phrase_tree.specs.Numbering.{event_count}
 use Rattle.evidence_types.specs.Evidence.{Evidence, seq_pair, par_pair}
-use Rattle.session_model.specs.Value.{Makings, part, value_of}
+use Rattle.session_model.specs.Value.{Makings, part, leaf_value}
 use Rattle.session_runs.specs.Configuration.{Configuration, todo, asked, posted, remote, first, left_arm, right_arm, both_arms, finished, start, measurement, once_finished, followed_by}
 
 -- how a block moves: it runs on, or it asks for a measurement
@@ -80,11 +80,9 @@ or_else (Some move) other = Some move
 
 -- a phrase of which nothing has happened
 abbrev pub todo_moves : Makings → List ℕ → Term → ℕ → Evidence → Step → Moved
-todo_moves from place cpy i before step = on_run step (happens i) (finished (value_of cpy place i before from))
-todo_moves from place sig i before step = on_run step (happens i) (finished (value_of sig place i before from))
-todo_moves from place hsh i before step = on_run step (happens i) (finished (value_of hsh place i before from))
-todo_moves from place (usm asp) i before step = on_ask step (asks i) (asked (usm asp) i before)
-todo_moves from place (kim target asp) i before step = on_ask step (asks i) (asked (kim target asp) i before)
+todo_moves from place (leaf form) i before step =
+    if is_measurement form then on_ask step (asks i) (asked form i before)
+    else on_run step (happens i) (finished (leaf_value form place i before from))
 todo_moves from place (at asked_place body) i before step = on_run step (sends asked_place i) (posted asked_place i body before)
 todo_moves from place (chain left right) i before step = None
 todo_moves from place (seq split left right) i before step =

@@ -1,6 +1,6 @@
 -- Which block an event belongs to (this project's own).
 use Rattle.std.specs.Prelude.{◌+◌, ℕ, Option, None, Some, nat_eq, nat_lt, if◌then◌else◌}
-use Rattle.phrase_tree.specs.Term.{Term, cpy, sig, hsh, usm, kim, at, chain, seq, par}
+use Rattle.phrase_tree.specs.Term.{Term, leaf, at, chain, seq, par}
 use Rattle.phrase_tree.specs.Numbering.{event_count}
 use Rattle.session_runs.specs.Standing.{Block, of}
 
@@ -15,11 +15,7 @@ split_at bound n low high = if nat_lt n bound then low else high
 -- the block that owns the event of a number, in a phrase that a block runs from `i` on; what a request
 -- runs and a right arm that runs in parallel are in a block of their own
 abbrev pub owner : Term → Block → ℕ → ℕ → Option Block
-owner cpy block i n = only_at i block n
-owner sig block i n = only_at i block n
-owner hsh block i n = only_at i block n
-owner (usm asp) block i n = only_at i block n
-owner (kim target asp) block i n = only_at i block n
+owner (leaf form) block i n = only_at i block n
 owner (at place body) block i n =
     split_at (i + 1) n
     (only_at i block n)

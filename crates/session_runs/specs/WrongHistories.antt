@@ -2,7 +2,7 @@
 use Rattle.std.specs.Prelude.{◌≡◌, ℕ, true, List, [], ◌∷◌, Option, None, Some}
 use Rattle.phrase_tree.specs.declared.measurement.Asp.{Asp}
 use Rattle.phrase_tree.specs.declared.phrase.Split.{Split}
-use Rattle.phrase_tree.specs.Term.{Term, cpy, usm, at, seq, par}
+use Rattle.phrase_tree.specs.Term.{Term, cpy, usm, leaf, at, seq, par}
 use Rattle.bench_trait.specs.declared.bench.BenchFault.TheVariants.{Broken}
 use Rattle.session_model.specs.Session.{Session}
 use Rattle.session_runs.specs.Standing.{root, of, run, ask, deliver, Entry, opened, played, answered, failed, Standing, next}
@@ -32,7 +32,7 @@ other_place = 113 ∷ []
 
 -- two leaves in parallel: the branch is joined once the right arm has happened, its block still to end
 abbrev pub two_leaves : Session
-two_leaves = of_phrase (par to_both cpy cpy)
+two_leaves = of_phrase (par to_both (leaf cpy) (leaf cpy))
 
 abbrev pub before_the_join : List Entry
 before_the_join =
@@ -43,7 +43,7 @@ the_join = played 0 (run root)
 
 -- a request: its reply comes with its delivery, ahead of the event at the other place
 abbrev pub one_request : Session
-one_request = of_phrase (at other_place cpy)
+one_request = of_phrase (at other_place (leaf cpy))
 
 abbrev pub before_the_reply : List Entry
 before_the_reply =
@@ -71,7 +71,7 @@ the_delivery_again = played 0 (deliver other_place)
 
 -- two measurements in sequence: the right arm is run in a block of its own, beside the left one
 abbrev pub one_by_one : Session
-one_by_one = of_phrase (seq to_both (usm (plain 97)) (usm (plain 98)))
+one_by_one = of_phrase (seq to_both (leaf (usm (plain 97))) (leaf (usm (plain 98))))
 
 abbrev pub the_left_arm_asks : List Entry
 the_left_arm_asks =
@@ -86,7 +86,7 @@ the_right_arm_fails = failed 0 2 (Broken 1)
 
 -- one measurement: its answer comes by a pass that didn't ask
 abbrev pub one_measurement : Session
-one_measurement = of_phrase (usm (plain 97))
+one_measurement = of_phrase (leaf (usm (plain 97)))
 
 abbrev pub one_pass_asks : List Entry
 one_pass_asks =
@@ -117,7 +117,7 @@ done_again = played 0 (run root)
 
 -- two measurements in parallel: one fails, and the other is still asked for
 abbrev pub two_measurements : Session
-two_measurements = of_phrase (par to_both (usm (plain 97)) (usm (plain 98)))
+two_measurements = of_phrase (par to_both (leaf (usm (plain 97))) (leaf (usm (plain 98))))
 
 abbrev pub one_fails : List Entry
 one_fails =

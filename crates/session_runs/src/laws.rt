@@ -32,7 +32,7 @@ pub fn trace_law()
 {}
 
 /// The law of progress: while a session is open, every pass can make a move, or an ask is in flight; and
-/// where the places given are all that its phrase asks, such a move is listed.
+/// if the places given are all that its phrase asks, such a move is listed.
 pub fn progress_law()
     ensures possible { (session : Session) (keys : List (List ℕ × List ℕ)) (history : List Entry) (standing : Standing) (pass : ℕ) →
         standing_after session keys history ≡ Some standing →
@@ -53,9 +53,9 @@ pub fn choice_law()
         movers_in block (ready_of standing.configuration) ≤ 1 }
 {}
 
-/// The law of listing: the moves that are listed are those that every pass can make, a delivery only
-/// where its place is one of those given; and each configuration that is ready can make its step, which
-/// is of the event that stands with it.
+/// The law of listing: the moves that are listed are those that every pass can make, a delivery only if
+/// its place is one of those given; and each configuration that is ready can make its step, which is of
+/// the event that goes with it.
 pub fn listing_law()
     ensures listed { (session : Session) (keys : List (List ℕ × List ℕ)) (places : List (List ℕ)) (history : List Entry) (standing : Standing) (pass : ℕ) (move : Move) →
         standing_after session keys history ≡ Some standing →
@@ -86,8 +86,9 @@ pub fn owner_law()
         owner session.phrase root 0 event ≡ Some one.block }
 {}
 
-/// The law of schedules: the sessions of a job as the schedule of a number plays them have histories
-/// that they can have, of the results given, and none of them is open in the end unless one is starved.
+/// The law of schedules: as the schedule of a number plays the sessions of a job, with the results
+/// given, they have histories that they can have, and none of them is open in the end unless one is
+/// starved.
 pub fn schedule_law()
     ensures { (places : List (List ℕ)) (keys : List (List ℕ × List ℕ)) (results : ℕ → ℕ → Result (List ℕ) MeasureError) (sessions : List Session) (number : ℕ) →
         AskOnly places sessions →
@@ -95,8 +96,8 @@ pub fn schedule_law()
         × AreOver (scheduled places keys results sessions number) }
 {}
 
-/// The law of legal schedules: where the results given are those of a bench, the sessions as a schedule
-/// plays them have legal histories.
+/// The law of legal schedules: if the results given are those of a bench, the sessions have legal
+/// histories as a schedule plays them.
 pub fn legal_schedule_law<B: Bench>(bench: &B, artefacts: &ArtefactBook)
     ensures { (places : List (List ℕ)) (keys : List (List ℕ × List ℕ)) (results : ℕ → ℕ → Result (List ℕ) MeasureError) (sessions : List Session) (number : ℕ) →
         AskOnly places sessions →
@@ -116,15 +117,16 @@ pub fn legal_schedule_law<B: Bench>(bench: &B, artefacts: &ArtefactBook)
         (scheduled places keys results sessions number) }
 {}
 
-/// The law of rising schedules: as the number 0 plays the sessions of a job, the events of each happen in
-/// the order of their numbers, and one that fails is the next.
+/// The law of rising schedules: as schedule number 0 plays the sessions of a job, the events of each
+/// happen in the order of their numbers, and an event that fails is the next one.
 pub fn rising_law()
     ensures { (places : List (List ℕ)) (keys : List (List ℕ × List ℕ)) (results : ℕ → ℕ → Result (List ℕ) MeasureError) (sessions : List Session) →
         AskOnly places sessions → AreRising (scheduled places keys results sessions 0) }
 {}
 
-/// The law of growth: a legal history with one entry more is legal just where the entry can come next
-/// and, if it is a result, is one of the bench for its question. So a history is legal entry by entry.
+/// The law of growth: a legal history with one more entry is legal exactly when the entry can come next
+/// and, if it is a result, is one of the bench's for its question. So a history is legal entry by
+/// entry.
 pub fn growth_law<B: Bench>(bench: &B, artefacts: &ArtefactBook)
     ensures { (session : Session) (keys : List (List ℕ × List ℕ)) (history : List Entry) (standing : Standing) (entry : Entry) (then_stands : Standing) →
         IsLegal
@@ -172,7 +174,7 @@ pub fn record_law<B: Bench>(bench: &B, artefacts: &ArtefactBook)
         found }
 {}
 
-/// The law of rising records: where the events of a legal history happened in the order of their numbers,
+/// The law of rising records: if the events of a legal history happened in the order of their numbers,
 /// its record is right in that order.
 pub fn rising_record_law<B: Bench>(bench: &B, artefacts: &ArtefactBook)
     ensures { (session : Session) (keys : List (List ℕ × List ℕ)) (history : List Entry) (standing : Standing) (found : Record) →

@@ -1,9 +1,9 @@
 -- What a history has of each pass.
 use Rattle.std.proofs.Common.{◌≡◌, ◌≢◌, ℕ, Bool, true, false, eqb, eq-eqb, ne_eqb, List, [], ◌∷◌, ◌++◌, refl, sym, ap, ◌∙◌, append-nil, append_assoc}
-use Rattle.std.specs.Prelude.{if◌then◌else◌}
+use Rattle.std.specs.Prelude.{if◌then◌else◌, Some}
 use Rattle.turn_cell.specs.declared.chronicle.Entry.{Entry}
 use Rattle.turn_cell.specs.declared.chronicle.Entry.TheVariants.{Opened, Made}
-use Rattle.turn_cell.specs.History.{made_by, Continues, own, Extends}
+use Rattle.turn_cell.specs.History.{IsOpening, opening_of, made_by, Continues, own, Extends}
 
 module _ (O I : Type 0) where
   abbrev E : Type 0
@@ -25,6 +25,27 @@ module _ (O I : Type 0) where
   pub made_by-other : (number n : ℕ) (items : List I) → n ≢ number → made_by number (own {O = O} n items) ≡ []
   made_by-other number n [] other = refl
   made_by-other number n (i ∷ is) other = rw (ne_eqb n number other) (made_by-other number n is other)
+
+  -- nothing can stand behind a list that it is as long as before
+  nothing_behind : (xs ys : List E) → xs ++ ys ≡ xs → ys ≡ []
+  nothing_behind [] ys e = e
+  nothing_behind (x ∷ xs) ys e = nothing_behind xs ys (cc)
+
+  -- where a beginning has all entries of a number, what stands behind it has none
+  pub others_behind : (number : ℕ) (seen rest history mine : List E) → history ≡ seen ++ rest → mine ≡ made_by number seen → mine ≡ made_by number history → made_by number rest ≡ []
+  others_behind number seen rest history mine is own all =
+      nothing_behind (made_by number seen) (made_by number rest) (sym (made_by-append number seen rest) ∙ sym (ap (made_by number) is) ∙ sym all ∙ own)
+
+  -- the opening has no entry of any number
+  pub opening_of_none : (number : ℕ) (opening : List E) → IsOpening opening → made_by number opening ≡ []
+  opening_of_none number opening o = ap (made_by number) o.is
+
+  -- histories that go on from the same opening begin with it
+  pub begins_alike : (opening xs ys : List E) → IsOpening opening → Continues opening xs → Continues opening ys → opening_of xs ≡ opening_of ys
+  begins_alike opening xs ys o c d = begins xs c ∙ sym (begins ys d)
+    where
+      begins : (zs : List E) → Continues opening zs → opening_of zs ≡ Some o.opening
+      begins zs c' = ap opening_of (c'.is ∙ ap (λ (l : List E). l ++ c'.rest) o.is)
 
   pub continues_itself : (xs : List E) → Continues xs xs
   continues_itself xs = record { rest = []; is = sym (append-nil xs) }

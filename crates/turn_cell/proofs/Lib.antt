@@ -3,4 +3,5 @@ mod Views
 mod Words
 mod Keeps
 mod Opens
+mod Takings
 mod Diaries

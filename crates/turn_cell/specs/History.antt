@@ -1,5 +1,5 @@
 -- Histories: lists of entries, of which the first is the opening.
-use Rattle.std.specs.Prelude.{◌≡◌, ℕ, ◌==◌, List, [], ◌∷◌, ◌++◌, if◌then◌else◌}
+use Rattle.std.specs.Prelude.{◌≡◌, ℕ, ◌==◌, List, [], ◌∷◌, ◌++◌, if◌then◌else◌, Option, Some, None}
 use Rattle.turn_cell.specs.declared.chronicle.Entry.{Entry}
 use Rattle.turn_cell.specs.declared.chronicle.Entry.TheVariants.{Opened, Made}
 
@@ -19,6 +19,12 @@ module _ {O I : Type 0} where
   pub record IsOpening (history : List (Entry O I)) : Type 0 where
     pub opening : O
     pub is : history ≡ Opened opening ∷ []
+
+  -- the opening that a history begins with
+  abbrev pub opening_of : List (Entry O I) → Option O
+  opening_of [] = None
+  opening_of (Opened o ∷ es) = Some o
+  opening_of (Made n i ∷ es) = None
 
   -- the entries that carry this number
   abbrev pub made_by : ℕ → List (Entry O I) → List (Entry O I)

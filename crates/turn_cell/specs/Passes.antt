@@ -1,9 +1,10 @@
 -- What a pass knows, in words for the clauses of this crate and of those above it, and what each call tells.
-use Rattle.std.specs.Prelude.{◌≡◌, ℕ, ◌+◌, ◌<◌, ◌⊎◌, Bool, true, false, List, [], ◌++◌, length, Some, slice_get}
+use Rattle.std.specs.Prelude.{◌≡◌, ◌≢◌, ℕ, ◌+◌, ◌<◌, ◌⊎◌, Bool, true, false, List, [], ◌++◌, length, Option, Some, None, slice_get}
+use Rattle.atomic_table.specs.Seated.{TableId}
 use Rattle.turn_cell.specs.declared.chronicle.Entry.{Entry}
 use Rattle.turn_cell.specs.declared.pass.CellPass.{CellPass}
 use Rattle.turn_cell.specs.declared.cell.TurnCell.{TurnCell}
-use Rattle.turn_cell.specs.History.{made_by, Continues, own}
+use Rattle.turn_cell.specs.History.{opening_of, made_by, Continues, own}
 use Rattle.turn_cell.specs.Rule.{last_number, IsTaking}
 
 module _ {S O I : Type 0} where
@@ -14,6 +15,10 @@ module _ {S O I : Type 0} where
   -- a prefix of the cell's history: that of the last state that the pass put back, or the opening
   abbrev pub seen : CellPass S O I → List (Entry O I)
   seen pass = pass.ticket.seat.me.0.seen
+
+  -- the opening that it begins with
+  abbrev pub opening : CellPass S O I → Option O
+  opening pass = opening_of (seen pass)
 
   -- the entries of the history that carry the pass's number
   abbrev pub mine : CellPass S O I → List (Entry O I)
@@ -43,9 +48,27 @@ module _ {S O I : Type 0} where
   abbrev pub met : CellPass S O I → ℕ
   met pass = pass.ticket.seat.me.0.met
 
+  -- a cell's identity
+  abbrev pub cell_id : TurnCell S O I → TableId
+  cell_id cell = cell.shelf.table.shared.table_id
+
+  -- the state that the cell was opened with
+  abbrev pub first_state : TurnCell S O I → S
+  first_state cell = cell.shelf.table.shared.key.value
+
+  -- the identity of the cell that made the pass
+  abbrev pub maker_id : CellPass S O I → TableId
+  maker_id pass = pass.ticket.seat.table_id
+
   -- the cell made the pass
   abbrev pub MadeBy : TurnCell S O I → CellPass S O I → Type 0
-  MadeBy cell pass = pass.ticket.seat.table_id ≡ cell.shelf.table.shared.table_id
+  MadeBy cell pass = maker_id pass ≡ cell_id cell
+
+  -- at every moment: what the pass has seen begins with the opening, and its own entries are just those in it that carry
+  -- its number
+  pub record Knows (pass : CellPass S O I) : Type 0 where
+    pub begins : opening pass ≢ None
+    pub own : mine pass ≡ made_by (number pass) (seen pass)
 
   -- the cell made the pass, which has this number and doesn't hold the turn
   pub record IsReady (cell : TurnCell S O I) (pass : CellPass S O I) (count : ℕ) : Type 0 where
@@ -70,11 +93,14 @@ module _ {S O I : Type 0} where
     pub made : (n : ℕ) (pass : CellPass S O I) → slice_get passes n ≡ Some pass → MadeBy cell pass
     pub new : (n : ℕ) (pass : CellPass S O I) → slice_get passes n ≡ Some pass → IsNew opening n pass
 
-  -- the turn was won. The history got has all that was seen as a prefix, and of this pass's entries just its own
+  -- the turn was won. The history got begins with the opening and has all that was seen as a prefix. What it has behind
+  -- that is of other passes, so of this pass's entries it has just its own
   pub record Takes (history : List (Entry O I)) (before after : CellPass S O I) : Type 0 where
     pub holds_now : holds after ≡ true
     pub got_is : got after ≡ history
+    pub begins : opening_of history ≡ opening before
     pub continues : Continues (seen before) history
+    pub others_behind : made_by (number before) continues.rest ≡ []
     pub mine_in_it : made_by (number before) history ≡ mine before
     pub takings_rose : takings after ≡ takings before + 1
     pub last_is_taking : IsTaking (last after)
@@ -102,6 +128,7 @@ module _ {S O I : Type 0} where
   pub record Puts (history : List (Entry O I)) (before after : CellPass S O I) : Type 0 where
     pub holds_not : holds after ≡ false
     pub seen_is : seen after ≡ history
+    pub begins : opening after ≡ opening before
     pub mine_is : mine after ≡ made_by (number before) history
     pub mine_grew : (items : List I) → history ≡ got before ++ own (number before) items → mine after ≡ mine before ++ own (number before) items
     pub number_stays : number after ≡ number before

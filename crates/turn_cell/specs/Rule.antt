@@ -7,7 +7,7 @@ use lib.ListN.{get_elem?}
 use Rattle.atomic_table.specs.Table.{State}
 use Rattle.turn_cell.specs.declared.chronicle.Entry.{Entry}
 use Rattle.turn_cell.specs.declared.pass.Known.{Known}
-use Rattle.turn_cell.specs.History.{made_by, Continues}
+use Rattle.turn_cell.specs.History.{IsOpening, made_by, Continues}
 
 -- whose turn it is: nobody's; nobody's any more; that of the pass with this number
 pub data Turn : Type 0 where
@@ -58,16 +58,16 @@ module _ {O I : Type 0} where
   abbrev pub EachPass : List (Known O I) → (ℕ → Known O I → Type 0) → Type 0
   EachPass views P = (number : ℕ) (v : Known O I) → get_elem? views (suc number) ≡ some v → P number v
 
-  -- the seat that makes the passes has the count of those that it made
-  pub record IsMaker (history : List (Entry O I)) (seats : ℕ) (v : Known O I) : Type 0 where
+  -- the seat that makes the passes has the count of those that it made, and has seen the opening alone
+  pub record IsMaker (opening : List (Entry O I)) (seats : ℕ) (v : Known O I) : Type 0 where
     pub makes : v.makes ≡ true
     pub count : suc v.number ≡ seats
-    pub seen : Continues v.seen history
+    pub seen : v.seen ≡ opening
     pub takings : v.takings ≡ 0
 
   -- 1. The passes made so far have the numbers from 0 below their count, each once. A number not yet made has no entry
-  pub record Numbered (history : List (Entry O I)) (views : List (Known O I)) : Type 0 where
-    pub maker : (v : Known O I) → get_elem? views 0 ≡ some v → IsMaker history (length views) v
+  pub record Numbered (opening history : List (Entry O I)) (views : List (Known O I)) : Type 0 where
+    pub maker : (v : Known O I) → get_elem? views 0 ≡ some v → IsMaker opening (length views) v
     pub each : EachPass views (λ number v. (v.makes ≡ false) × (v.number ≡ number))
     pub later : (number : ℕ) → length views ≤ suc number → made_by number history ≡ []
 
@@ -83,9 +83,16 @@ module _ {O I : Type 0} where
     pub out : homes ≡ none ∷ []
     pub got : EachPass views (λ number v. number ≡ holder → v.got ≡ history)
 
-  -- 5. The history begins with what a pass has seen, and of this number it has just the pass's own entries
-  pub record Sees (history : List (Entry O I)) (number : ℕ) (v : Known O I) : Type 0 where
+  -- 5. The history begins with the opening
+  pub record Begins (opening history : List (Entry O I)) : Type 0 where
+    pub alone : IsOpening opening
+    pub first : Continues opening history
+
+  -- and with what a pass has seen, which begins with the opening too. Of the pass's number both have just its own entries
+  pub record Sees (opening history : List (Entry O I)) (number : ℕ) (v : Known O I) : Type 0 where
+    pub begins : Continues opening v.seen
     pub seen : Continues v.seen history
+    pub own : v.mine ≡ made_by number v.seen
     pub mine : v.mine ≡ made_by number history
 
   -- the takings of all passes, added up
@@ -111,15 +118,16 @@ module _ {S O I : Type 0} (history_of : S → List (Entry O I)) where
     pub history_is : history_of state ≡ history
 
   -- the seven parts, in their order
-  pub record Rule (history : List (Entry O I)) (takings : ℕ) (turn : Turn) (s : State (Option S) (Known O I)) : Type 0 where
-    pub numbered : Numbered history s.views
+  pub record Rule (opening history : List (Entry O I)) (takings : ℕ) (turn : Turn) (s : State (Option S) (Known O I)) : Type 0 where
+    pub numbered : Numbered opening history s.views
     pub one_turn : OneTurn takings turn s.words s.views
     pub at_home : WhileNobodys turn (AtHome history s.homes)
     pub in_hand : WhileHeld turn (InHand history s.homes s.views)
-    pub sees : EachPass s.views (Sees history)
+    pub begins : Begins opening history
+    pub sees : EachPass s.views (Sees opening history)
     pub counted : Counted takings s.views
     pub newest : WhileHeld turn (IsNewest takings s.views)
 
-  -- the rule of some history, after some takings, with some turn
-  abbrev pub Ruled : State (Option S) (Known O I) → Type 0
-  Ruled s = (history : List (Entry O I)) × (takings : ℕ) × (turn : Turn) × Rule history takings turn s
+  -- the rule of a cell with this opening: of some history, after some takings, with some turn
+  abbrev pub Ruled : List (Entry O I) → State (Option S) (Known O I) → Type 0
+  Ruled opening s = (history : List (Entry O I)) × (takings : ℕ) × (turn : Turn) × Rule opening history takings turn s

@@ -4,7 +4,7 @@ use Rattle.std.specs.Prelude.{◌≡◌, ◌≢◌, ℕ, ◌+◌, ◌-◌, ◌*�
 use Rattle.atomic_table.specs.Table.{Me, Step, rest}
 use Rattle.turn_cell.specs.declared.chronicle.Entry.{Entry}
 use Rattle.turn_cell.specs.declared.pass.Known.{Known}
-use Rattle.turn_cell.specs.History.{made_by, Continues, own}
+use Rattle.turn_cell.specs.History.{opening_of, made_by, Continues, own}
 use Rattle.turn_cell.specs.Rule.{last_number, IsTaking}
 
 -- the word at which the taking of this number ends
@@ -50,7 +50,9 @@ module _ {S O I : Type 0} (history_of : S → List (Entry O I)) where
     pub state : S
     pub hand : after.1 ≡ (0, Some state) ∷ before.1
     pub view : after.0 ≡ after_winning before.0 (history_of state) taking
+    pub begins : opening_of (history_of state) ≡ opening_of before.0.seen
     pub continues : Continues before.0.seen (history_of state)
+    pub others : made_by before.0.number continues.rest ≡ []
     pub mine : made_by before.0.number (history_of state) ≡ before.0.mine
     pub is_taking : IsTaking taking
     pub later : before.0.last < taking
@@ -79,6 +81,7 @@ module _ {S O I : Type 0} (history_of : S → List (Entry O I)) where
   pub record Gives (before after : Sat) : Type 0 where
     pub hand : after.1 ≡ rest before.1
     pub view : after.0 ≡ after_giving before.0 (in_hand before.1)
+    pub begins : opening_of (in_hand before.1) ≡ opening_of before.0.seen
     pub grown : (items : List I) → in_hand before.1 ≡ before.0.got ++ own before.0.number items → made_by before.0.number (in_hand before.1) ≡ before.0.mine ++ own before.0.number items
 
   -- the word was stored at which the holder's taking ends

@@ -12,7 +12,7 @@ use std::snapshot::Snapshot;
 // The number of the last taking. When it ends the turn is worn out.
 const LAST: u64 = 1 << 63;
 
-/// The table of a cell. It stands apart from the cell, since it asks nothing of the state.
+/// The table of a cell. It is separate from the cell, since it requires nothing of the state.
 #[derive(Drop)]
 pub struct Shelf<S, V, K, P: TableRule<S, V, K>> {
     pub(crate) table: Table<S, V, K, P, Global>,
@@ -43,7 +43,7 @@ fn word_after_taking(taking: u64) -> u64
 impl<S: Chronicle> TurnCell<S> {
     ghost use Rattle.std.specs.Prelude.{[], false, true, IfSome, IfNone};
     ghost use Rattle.turn_cell.specs.History.{IsOpening, Extends};
-    ghost use Rattle.turn_cell.specs.Passes.{number, holds, got, MadeBy, AreNew, Takes, Loses, Puts};
+    ghost use Rattle.turn_cell.specs.Passes.{number, opening, holds, got, first_state, MadeBy, Knows, AreNew, Takes, Loses, Puts};
     ghost use Rattle.turn_cell.specs.Steps.{maker, after_one_more, newcomer};
 
     /// A cell that keeps this state, and as many passes of it as there are seats, in the order of their numbers.
@@ -55,6 +55,7 @@ impl<S: Chronicle> TurnCell<S> {
         requires seats { 0 < seats }
         requires opening { IsOpening (S.history state) }
         ensures ok { IfOk result (λ opened. AreNew (S.history state) seats opened.0 opened.1.items) }
+        ensures first { IfOk result (λ opened. first_state opened.0 ≡ state) }
         ensures err { IfErr result (λ unopened. unopened.state ≡ state) }
     {
         let Ok(mut passes) = Vec::with_capacity(alloc, seats as usize) else {
@@ -73,7 +74,7 @@ impl<S: Chronicle> TurnCell<S> {
         state: S,
     ) -> Result<(TurnCell<S>, Seat<Option<S>, Known<S::Opening, S::Item>>), Unopened<S>>
         requires { IsOpening (S.history state) }
-        ensures ok { IfOk result (λ laid. (laid.1.table_id ≡ laid.0.shelf.table.shared.table_id) × (laid.1.id ≡ 0) × (laid.1.me.0 ≡ maker (S.history state))) }
+        ensures ok { IfOk result (λ laid. (laid.1.table_id ≡ laid.0.shelf.table.shared.table_id) × (laid.1.id ≡ 0) × (laid.1.me.0 ≡ maker (S.history state)) × (first_state laid.0 ≡ state)) }
         ensures err { IfErr result (λ unopened. unopened.state ≡ state) }
     {
         let about = Snapshot::of(&state);
@@ -97,7 +98,8 @@ impl<S: Chronicle> TurnCell<S> {
 
     // One pass more.
     fn make(&self, maker: &mut Seat<Option<S>, Known<S::Opening, S::Item>>) -> CellPass<S>
-        requires { (maker.old.table_id ≡ self.now.shelf.table.shared.table_id) × (maker.old.id ≡ 0) }
+        requires table { (maker.old.table_id ≡ self.now.shelf.table.shared.table_id) × (maker.old.id ≡ 0) }
+        requires seen { IsOpening maker.old.me.0.seen }
         ensures maker { (maker.new.table_id ≡ maker.old.table_id) × (maker.new.id ≡ maker.old.id) × (maker.new.me.0 ≡ after_one_more maker.old.me.0) }
         ensures pass { MadeBy self.now result × (result.ticket.seat.me.0 ≡ newcomer maker.old.me.0) }
     {
@@ -112,6 +114,7 @@ impl<S: Chronicle> TurnCell<S> {
         requires made { MadeBy self.now pass.old }
         requires idle { holds pass.old ≡ false }
         ensures made { MadeBy self.now pass.new }
+        ensures knows { Knows pass.new }
         ensures some { IfSome result (λ state. Takes (S.history state) pass.old pass.new) }
         ensures none { IfNone result (Loses pass.old pass.new) }
     {
@@ -125,12 +128,13 @@ impl<S: Chronicle> TurnCell<S> {
         shared.exchange(&mut ticket.seat, 0, None)
     }
 
-    /// Puts the state back, and gives the turn up. It does not wait, and takes no memory.
+    /// Puts the state back and gives up the turn. It does not wait, and takes no memory.
     pub fn put(&self, pass: &mut CellPass<S>, state: S)
         requires made { MadeBy self.now pass.old }
         requires holding { holds pass.old ≡ true }
         requires extends { Extends (number pass.old) (got pass.old) (S.history state) }
         ensures made { MadeBy self.now pass.new }
+        ensures knows { Knows pass.new }
         ensures puts { Puts (S.history state) pass.old pass.new }
     {
         let shared = &self.shelf.table.shared;

@@ -6,6 +6,7 @@
 mod cell;
 mod chronicle;
 mod diary;
+mod laws;
 mod pass;
 mod rule;
 #[cfg(test)]
@@ -14,4 +15,5 @@ mod threads;
 
 pub use cell::{TurnCell, Unopened};
 pub use chronicle::{Chronicle, Entry};
+pub use laws::made_by_law;
 pub use pass::CellPass;

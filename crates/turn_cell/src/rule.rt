@@ -10,7 +10,7 @@ impl<S: Chronicle> TableRule<Option<S>, Known<S::Opening, S::Item>, Snapshot<S>>
     ghost use Rattle.turn_cell.specs.Rule.{Ruled};
     ghost use Rattle.turn_cell.specs.Steps.{maker};
 
-    ghost holds = { λ _. Ruled S.history };
+    ghost holds = { λ key. Ruled S.history (S.history key.value) };
 
     ghost first = { λ key. maker (S.history key.value) };
 }

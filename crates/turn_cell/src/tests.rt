@@ -1,8 +1,8 @@
 ghost use Rattle.std.specs.Prelude.{IfSome};
 ghost use Rattle.turn_cell.specs.Passes.{IsReady};
 
-use crate::diary::{Diary, append};
-use crate::{CellPass, TurnCell};
+use crate::diary::{Begun, Diary, append};
+use crate::{CellPass, TurnCell, made_by_law};
 use std::alloc::Global;
 use std::sync::Wait;
 use std::test::*;
@@ -25,6 +25,7 @@ fn opened<'a, T>(alloc: Global, text: &'a T) -> Option<Table<'a, T>>
     let Ok((cell, mut passes)) = TurnCell::open(alloc, diary, 3) else {
         return None;
     };
+    made_by_law::<Begun<'a, T>, ()>();
     let third = passes.pop()?;
     let second = passes.pop()?;
     let first = passes.pop()?;
@@ -113,6 +114,7 @@ fn another_pass_gets_nothing_while_one_has_the_state(rt: HostRuntime) -> Result<
         second: mut another,
         third: _,
     } = opened(rt.alloc(), &text).ok_or("no memory")?;
+    first.knows();
     let diary = cell.take(&mut first).ok_or("the turn was free")?;
     assert!(rt; cell.take(&mut second).is_none());
     assert!(rt; other.take(&mut another).is_some());

@@ -11,8 +11,8 @@ overflow_cast-at c =
 
 pub returns-in-None : goal.returns-in-None
 returns-in-None c =
-    may_follow (term c.args.phrase.now) c.args.trace.now c.front-ahead.result.now c.args.at (slice_index c.args.trace.now c.args.at) c.needs.result c.front-ahead.ensures c.requires.behind (omega arith) (iff_false c.has.ensures c.if-has.false) c.needs.ensures.direct c.in-None.ensures
+    may_follow (term c.args.phrase.now) c.args.trace.now c.front-ahead.result.now c.args.at (slice_index c.args.trace.now c.args.at) c.needs.result c.front-ahead.ensures c.requires.behind (omega arith) (iff_false c.has.ensures c.if-has.false) c.needs.ensures c.in-None.ensures
 
 pub returns-in-Some : goal.returns-in-Some
 returns-in-Some c =
-    is_early (term c.args.phrase.now) c.args.trace.now c.front-ahead.result.now c.args.at (slice_index c.args.trace.now c.args.at) c.in-Some.needs c.needs.result c.front-ahead.ensures c.requires.behind refl (omega arith) (iff_false c.has.ensures c.if-has.false) c.needs.ensures.direct c.in-Some.ensures
+    is_early (term c.args.phrase.now) c.args.trace.now c.front-ahead.result.now c.args.at (slice_index c.args.trace.now c.args.at) c.in-Some.needs c.needs.result c.front-ahead.ensures c.requires.behind refl (omega arith) (iff_false c.has.ensures c.if-has.false) c.needs.ensures c.in-Some.ensures

@@ -1,7 +1,7 @@
 -- What the check refused is what keeps the session from being run.
 use Rattle.std.proofs.Common.{refl}
 use Rattle.phrase_tree.specs.Term.{term}
-use Rattle.evidence_types.specs.Weight.{oversize_at}
+use Rattle.evidence_types.specs.Measure.{oversize_at}
 use Rattle.place_check.specs.Rules.{faults}
 use Rattle.job_reader.specs.Whole.{misplaced, oversize}
 use Rattle.job_reader.proofs.CheckLemmas.{misplaced_hinders, oversize_hinders}

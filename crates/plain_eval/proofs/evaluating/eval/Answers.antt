@@ -8,4 +8,4 @@ pub returns-clause-fits : goal.returns-clause-fits
 returns-clause-fits c = λ light.
     let from : Makings = record { nonce = c.args.nonce.now; answers = c.args.answers.now; keys = c.args.keys.now } in
     rw (c.into_inner.ensures, c.in_ok-made.ensures.value, c.in_ok-before.ensures)
-    (value_fits (term c.args.phrase.now) c.args.place from c.requires.sized light c.told-nonce c.in_ok-made.ensures.short)
+    (value_fits (term c.args.phrase.now) c.args.place from light c.told-nonce c.in_ok-made.ensures.short)

@@ -10,7 +10,8 @@ returns-in-Cpy g t c =
     elim c.in-Cpy.is [
       | inl is ↦ rw is (leaf_walked _ (λ ask fault. g.B.Bench.fails c.args.asking.now.bench.now c.args.asking.now.artefacts.now ask fault) c.args.first c.args.answers c.requires.up_to)
       | inr (inl is) ↦ rw is (leaf_walked _ (λ ask fault. g.B.Bench.fails c.args.asking.now.bench.now c.args.asking.now.artefacts.now ask fault) c.args.first c.args.answers c.requires.up_to)
-      | inr (inr is) ↦ rw is (leaf_walked _ (λ ask fault. g.B.Bench.fails c.args.asking.now.bench.now c.args.asking.now.artefacts.now ask fault) c.args.first c.args.answers c.requires.up_to)
+      | inr (inr (inl is)) ↦ rw is (leaf_walked _ (λ ask fault. g.B.Bench.fails c.args.asking.now.bench.now c.args.asking.now.artefacts.now ask fault) c.args.first c.args.answers c.requires.up_to)
+      | inr (inr (inr is)) ↦ rw is (leaf_walked _ (λ ask fault. g.B.Bench.fails c.args.asking.now.bench.now c.args.asking.now.artefacts.now ask fault) c.args.first c.args.answers c.requires.up_to)
     ]
 
 pub returns-in_ok-inside-in-At : goal.returns-in_ok-inside-in-At

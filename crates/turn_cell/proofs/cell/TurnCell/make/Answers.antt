@@ -7,8 +7,9 @@ use Rattle.turn_cell.proofs.cell.TurnCell.make.Goals as goal
 
 pub split_seat-seat-requires : goal.split_seat-seat-requires
 split_seat-seat-requires g c =
-    let v = c.args.maker.now.me.0 in (
+    let v = c.args.maker.now.me.0 in
+    let opening = g.S.Chronicle.history c.args.self.now.shelf.table.shared.key.value in (
       search rules,
       search rules,
-      subst (λ (id : ℕ). Splits (Ruled g.S.Chronicle.history) id v (after_one_more v) (newcomer v)) (sym c.requires.1) (makes _ _ _ g.S.Chronicle.history v),
+      subst (λ (id : ℕ). Splits (Ruled g.S.Chronicle.history opening) id v (after_one_more v) (newcomer v)) (sym c.requires.table.1) (makes _ _ _ g.S.Chronicle.history opening v),
     )

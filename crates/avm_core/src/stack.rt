@@ -1,0 +1,59 @@
+ghost use Rattle.std.specs.Prelude.{◌≡◌, ◌<◌, ◌≤◌, [], ◌∷◌, length, drop};
+
+use arrayvec::ArrayVec;
+use evidence_store::EvId;
+use std::marker::Model;
+
+/// The greatest height of a machine's stack: only the sequential branches that are open in its block push.
+pub const STACK_HEIGHT: usize = 65;
+
+/// A machine's stack of evidence, kept inline. Clauses see the ids, the top first.
+#[derive(Debug, Drop)]
+pub struct Stack {
+    ids: ArrayVec<EvId, 65>,
+}
+
+impl Model for Stack {
+    ghost use Rattle.std.specs.Prelude.{ℕ, List, reverse};
+
+    ghost Value = { List ℕ };
+
+    ghost view = { λ stack. reverse stack.ids.items };
+}
+
+impl Stack {
+    pub fn empty() -> Stack
+        ensures { result ≡ [] }
+    {
+        Stack {
+            ids: ArrayVec::new(),
+        }
+    }
+
+    /// Puts evidence on top.
+    pub fn push(&mut self, id: EvId)
+        requires { length self.old < 65 }
+        ensures { self.new ≡ id ∷ self.old }
+    {
+        self.ids.push(id);
+    }
+
+    /// Takes the top.
+    pub fn pop(&mut self) -> EvId
+        requires { 1 ≤ length self.old }
+        ensures { self.old ≡ result ∷ self.new }
+    {
+        let Some(id) = self.ids.pop() else {
+            unreachable!()
+        };
+        id
+    }
+
+    /// The top.
+    pub fn top(&self) -> EvId
+        requires { 1 ≤ length self.now }
+        ensures { self.now ≡ result ∷ drop 1 self.now }
+    {
+        self.ids[self.ids.len() - 1]
+    }
+}

@@ -1,0 +1,7 @@
+-- A job is refused for what was found, or for want of memory.
+use Rattle.copland_cli.proofs.OutcomeLemmas.{refused_at}
+use Rattle.copland_cli.proofs.input.job_over.Goals as goal
+
+pub returns-in-Err-clause-job : goal.returns-in-Err-clause-job
+returns-in-Err-clause-job c =
+    refused_at c.args.bytes.now c.args.need c.is_required.result c.in-Err.error c.refusal_for.result c.is_required.ensures c.in-Err.ensures.finding c.in-Err.ensures.exact c.refusal_for.ensures

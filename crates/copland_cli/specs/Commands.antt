@@ -1,0 +1,43 @@
+-- Which commands run on one thread, which are built, and what each reads.
+use Rattle.std.specs.Prelude.{◌≡◌}
+use Rattle.copland_cli.specs.declared.words.Command.{Command}
+use Rattle.copland_cli.specs.declared.words.Command.TheVariants.{Check, Shape, Events, Code, Eval, Walk, Attest, Appraise, Load}
+use Rattle.copland_cli.specs.declared.input.BundleNeed.TheVariants.{Optional, Required}
+use Rattle.copland_cli.specs.declared.input.Input.{Input}
+use Rattle.copland_cli.specs.declared.input.Input.TheVariants.{Nothing, Job}
+
+-- the command runs on one thread
+abbrev pub IsPlain : Command → Type 0
+IsPlain Check = Unit {0}
+IsPlain Shape = Unit {0}
+IsPlain Events = Unit {0}
+IsPlain Code = Unit {0}
+IsPlain Eval = Unit {0}
+IsPlain (Walk schedule) = Unit {0}
+IsPlain (Attest workers) = ⊥
+IsPlain Appraise = Unit {0}
+IsPlain (Load number) = Unit {0}
+
+-- the command is built
+abbrev pub IsBuilt : Command → Type 0
+IsBuilt Check = Unit {0}
+IsBuilt Shape = Unit {0}
+IsBuilt Events = Unit {0}
+IsBuilt Code = Unit {0}
+IsBuilt Eval = Unit {0}
+IsBuilt (Walk schedule) = schedule ≡ 0
+IsBuilt (Attest workers) = ⊥
+IsBuilt Appraise = ⊥
+IsBuilt (Load number) = ⊥
+
+-- what a command reads
+abbrev pub input_of : Command → Input
+input_of Check = Job Optional
+input_of Shape = Job Optional
+input_of Events = Job Optional
+input_of Code = Job Optional
+input_of Eval = Job Optional
+input_of (Walk schedule) = Job Optional
+input_of (Attest workers) = Job Optional
+input_of Appraise = Job Required
+input_of (Load number) = Nothing

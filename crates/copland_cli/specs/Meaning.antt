@@ -1,0 +1,57 @@
+-- What a command means over a whole accepted job: what it refuses after the refusals of the job, and what it
+-- reports. A command has a row in each table.
+use Rattle.std.specs.Prelude.{◌≡◌, ℕ, List}
+use Rattle.place_check.specs.Places.{keys_of}
+use Rattle.job_reader.specs.Finding.{JobView}
+use Rattle.report_text.specs.declared.refusal.Refusal.{Refusal}
+use Rattle.report_text.specs.declared.refusal.Refusal.TheVariants.{Words, Unbuilt, ReadFault, TooLong, Job, NoReference, BadBundle, BadShape, NoMemory}
+use Rattle.copland_cli.specs.Reported.{Failing, Giving, ReportsEach, Says, Saying}
+use Rattle.copland_cli.specs.declared.ending.Ending.{Ending}
+use Rattle.copland_cli.specs.declared.words.Command.{Command}
+use Rattle.copland_cli.specs.declared.words.Command.TheVariants.{Check, Shape, Events, Code, Eval, Walk, Attest, Appraise, Load}
+
+-- a command refuses an accepted job for this
+abbrev pub RefusesJob : Giving → Failing → Command → JobView → Refusal → Type 0
+RefusesJob Gives Fails Check job why = ⊥
+RefusesJob Gives Fails Shape job why = ⊥
+RefusesJob Gives Fails Events job why = ⊥
+RefusesJob Gives Fails Code job why = ⊥
+RefusesJob Gives Fails Eval job why = ⊥
+RefusesJob Gives Fails (Walk schedule) job why = ⊥
+RefusesJob Gives Fails (Attest workers) job why = ⊥
+RefusesJob Gives Fails Appraise job why = ⊥
+RefusesJob Gives Fails (Load number) job why = ⊥
+
+-- what a command says of a session of a job
+abbrev pub SaysIn : Giving → Failing → JobView → Command → Saying
+SaysIn Gives Fails job command = Says (Gives job.artefacts) (Fails job.artefacts) (keys_of job.places) command
+
+-- the text is a report of the command on an accepted job, and ends so
+abbrev pub IsReport : Giving → Failing → Command → JobView → List ℕ → Ending → Type 0
+IsReport Gives Fails Check job text ending = ReportsEach (SaysIn Gives Fails job Check) job.sessions text ending
+IsReport Gives Fails Shape job text ending = ReportsEach (SaysIn Gives Fails job Shape) job.sessions text ending
+IsReport Gives Fails Events job text ending = ReportsEach (SaysIn Gives Fails job Events) job.sessions text ending
+IsReport Gives Fails Code job text ending = ReportsEach (SaysIn Gives Fails job Code) job.sessions text ending
+IsReport Gives Fails Eval job text ending = ReportsEach (SaysIn Gives Fails job Eval) job.sessions text ending
+IsReport Gives Fails (Walk schedule) job text ending = ReportsEach (SaysIn Gives Fails job (Walk schedule)) job.sessions text ending
+IsReport Gives Fails (Attest workers) job text ending = ⊥
+IsReport Gives Fails Appraise job text ending = ⊥
+IsReport Gives Fails (Load number) job text ending = ⊥
+
+-- the refusal is one that a command may have after those of the job
+abbrev pub IsOfMeaning : Refusal → Type 0
+IsOfMeaning Words = ⊥
+IsOfMeaning Unbuilt = ⊥
+IsOfMeaning ReadFault = ⊥
+IsOfMeaning TooLong = ⊥
+IsOfMeaning (Job error) = ⊥
+IsOfMeaning (NoReference event) = Unit {0}
+IsOfMeaning (BadBundle at kind) = Unit {0}
+IsOfMeaning (BadShape node) = Unit {0}
+IsOfMeaning NoMemory = ⊥
+
+-- an accepted job has at most one such refusal, and never both it and a report
+pub record IsDecisive (Refuses : Refusal → Type 0) (Reports : List ℕ → Ending → Type 0) : Type 0 where
+  pub late : (why : Refusal) → Refuses why → IsOfMeaning why
+  pub one_refusal : (why other : Refusal) → Refuses why → Refuses other → why ≡ other
+  pub not_both : (why : Refusal) (text : List ℕ) (ending : Ending) → Refuses why → ¬ Reports text ending

@@ -1,0 +1,39 @@
+ghost use Rattle.std.specs.Prelude.{◌≡◌};
+ghost use Rattle.copland_cli.specs.Reported.{ending_of};
+ghost use Rattle.copland_cli.specs.Status.{ending_status};
+
+use crate::status::Status;
+
+/// How a report that is written whole ends.
+#[derive(Clone, Copy, Debug, PartialEq, Eq)]
+pub enum Ending {
+    Good,
+    /// A session in it failed.
+    SomeFailed,
+    /// Its verdicts aren't all good.
+    Rejected,
+}
+
+impl Ending {
+    /// The ending of a report on sessions, by whether one of them failed.
+    pub fn of_sessions(some_failed: bool) -> Ending
+        ensures { result ≡ ending_of some_failed }
+    {
+        if some_failed {
+            Ending::SomeFailed
+        } else {
+            Ending::Good
+        }
+    }
+
+    /// The status of a run that ends so.
+    pub fn status(self) -> Status
+        ensures { result ≡ ending_status self }
+    {
+        match self {
+            Ending::Good => Status::Good,
+            Ending::SomeFailed => Status::SomeFailed,
+            Ending::Rejected => Status::Rejected,
+        }
+    }
+}

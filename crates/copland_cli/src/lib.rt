@@ -1,0 +1,29 @@
+//! The commands of Cerealspit, which carries out phrases of Copland, the language of layered attestation,
+//! and appraises the bundles that they make. `plain_top` is the whole program except for the ports and
+//! the bench: from the words and the bytes that come in to the bytes that go out and the exit status. A
+//! program with measurements of its own implements `Bench`, calls `plain_top`, and ends with the code of
+//! the status.
+#![tactic(auto)]
+
+mod ending;
+mod input;
+#[cfg(test)]
+mod job_tests;
+mod laws;
+mod outcome;
+mod record;
+#[cfg(test)]
+mod refusal_tests;
+mod report;
+mod session;
+mod status;
+#[cfg(test)]
+mod tests;
+mod top;
+mod walk;
+mod words;
+
+pub use laws::{commands_are_decisive, reports_follow_from_bytes};
+pub use session::blocks_have_keys;
+pub use status::Status;
+pub use top::{plain_top, refuse};

@@ -1,0 +1,61 @@
+-- Lists of what can come next, as they are kept in rising order (this project's own).
+use Rattle.std.specs.Prelude.{◌≡◌, ◌<◌, ◌↔◌, ℕ, List, [], ◌∷◌, ◌++◌, Option, None, Some, Contains}
+use Rattle.evidence_types.specs.Evidence.{Evidence}
+use Rattle.machine_tables.specs.Tables.{Tables, next_of}
+use Rattle.session_runs.specs.Standing.{Move, deliver}
+use Rattle.session_runs.specs.MoveOrder.{Ready, rank, moves_by}
+use Rattle.session_tables.specs.Shown.{pass_of}
+
+-- each is above a bound by its key
+abbrev pub AreAbove : (A : Type 0) → (A → ℕ) → ℕ → List A → Type 0
+AreAbove A key bound [] = Unit {0}
+AreAbove A key bound (one ∷ rest) = (bound < key one) × AreAbove A key bound rest
+
+-- they rise strictly by their keys
+abbrev pub Rise : (A : Type 0) → (A → ℕ) → List A → Type 0
+Rise A key [] = Unit {0}
+Rise A key (one ∷ rest) = AreAbove A key (key one) rest × Rise A key rest
+
+-- by what a move is listed, and an ask
+abbrev pub rank_of : Ready → ℕ
+rank_of ready = rank ready.block ready.event
+
+abbrev pub event_of_ask : ℕ × ℕ → ℕ
+event_of_ask asked = asked.0
+
+-- it is what its block can do next
+abbrev pub IsNext : Tables → Ready → Type 0
+IsNext tables ready = next_of tables ready.block ≡ Some (ready.step, ready.event)
+
+abbrev pub IsSilent : Option ℕ → Type 0
+IsSilent None = Unit {0}
+IsSilent (Some event) = ⊥
+
+abbrev pub IsOfEvent : Option ℕ → Type 0
+IsOfEvent None = ⊥
+IsOfEvent (Some event) = Unit {0}
+
+-- what the blocks can do next, in two rising lists: without an event by the block, and by the event
+pub record IsAgenda (tables : Tables) (silent events : List Ready) : Type 0 where
+  pub silent_rise : Rise Ready rank_of silent
+  pub events_rise : Rise Ready rank_of events
+  pub silent_next : (one : Ready) → Contains silent one ↔ (IsNext tables one × IsSilent one.event)
+  pub events_next : (one : Ready) → Contains events one ↔ (IsNext tables one × IsOfEvent one.event)
+
+-- a delivery at each place where a request waits, in the order of the places
+abbrev pub delivery_in : List (ℕ × Evidence) → List ℕ → List Move → List Move
+delivery_in [] place rest = rest
+delivery_in (request ∷ more) place rest = deliver place ∷ rest
+
+abbrev pub deliveries_by : Tables → List (List ℕ) → List Move
+deliveries_by tables [] = []
+deliveries_by tables (place ∷ places) = delivery_in (tables.requests place) place (deliveries_by tables places)
+
+-- all of them
+abbrev pub listed_moves : Tables → List (List ℕ) → List Ready → List Ready → List Move
+listed_moves tables places silent events = deliveries_by tables places ++ (moves_by silent ++ moves_by events)
+
+-- the asks in flight in a rising list, each with its pass
+pub record AreAsked (tables : Tables) (asks : List (ℕ × ℕ)) : Type 0 where
+  pub rise : Rise (ℕ × ℕ) event_of_ask asks
+  pub asked : (event pass : ℕ) → Contains asks (event, pass) ↔ (pass_of (tables.in_flight event) ≡ pass ∷ [])

@@ -1,0 +1,4 @@
+pub mod Left
+pub mod Found
+pub mod Shown
+pub mod Agenda

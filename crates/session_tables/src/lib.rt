@@ -1,0 +1,10 @@
+//! What the tables of a session's machines say of its phrase: at every moment they show how far the
+//! phrase is, entry by entry. Definitions and laws alone, for the crate that runs sessions; they know no
+//! store, id or lock.
+#![tactic(auto)]
+
+mod laws;
+#[cfg(test)]
+mod tests;
+
+pub use laws::{agenda_law, entry_law, ready_law, start_law, tables_law};

@@ -1,0 +1,10 @@
+use super::*;
+
+#[test]
+fn the_laws_of_tables_are_called() {
+    agenda_law();
+    entry_law();
+    ready_law();
+    start_law();
+    tables_law();
+}
