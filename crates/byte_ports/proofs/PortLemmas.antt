@@ -23,14 +23,6 @@ Gave-append (Some before) (Some middle) None first second t u = u
 Gave-append (Some before) (Some middle) (Some after) first second t u =
     t ∙ ap (λ bytes. first ++ bytes) u ∙ sym (append_assoc first second after)
 
-pub Took-none : (before : Option (List ℕ)) → Took before before []
-Took-none None = tt
-Took-none (Some before) = sym (append-nil before)
-
-pub Gave-none : (before : Option (List ℕ)) → Gave before before []
-Gave-none None = tt
-Gave-none (Some before) = refl
-
 -- at a fault, what was taken so far is the front of all the bytes
 pub Took-front : (before middle after : Option (List ℕ)) (bytes : List ℕ) (written : ℕ) → Took before middle (take written bytes) → Took middle after [] → (front : List ℕ) × (rest : List ℕ) × (bytes ≡ front ++ rest) × Took before after front
 Took-front before middle after bytes written t u =
