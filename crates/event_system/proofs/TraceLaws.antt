@@ -30,34 +30,12 @@ contains_front xs k x le c =
     let w = from_front xs k x le c in
     (w.0, omega (arith, w.1.0), w.1.1)
 
-pub so_far_from : (phrase : Term) (i : ℕ) (trace : List ℕ) (n : ℕ) → n ≤ length trace → StandsUpTo phrase i trace n → IsTraceSoFar phrase i (take n trace)
-so_far_from phrase i trace n le s = record {
-  each = λ k lt.
-      let within : k < n = omega (arith, length-take-le n trace le, lt) in
-      let same : take k trace ≡ take k (take n trace) = sym (take-take k n trace (omega arith)) in
-      let there : slice_index trace k ≡ slice_index (take n trace) k = sym (get_or-take n trace k 0 within) in
-      subst (λ m. MayFollow phrase i (take k (take n trace)) m) there (subst (λ ahead. MayFollow phrase i ahead (slice_index trace k)) same (s.each k within));
-}
-
 pub up_to_from : (phrase : Term) (i : ℕ) (trace : List ℕ) (n : ℕ) → n ≤ length trace → IsTraceSoFar phrase i (take n trace) → StandsUpTo phrase i trace n
 up_to_from phrase i trace n le s = record {
   each = λ k lt.
       let same : take k (take n trace) ≡ take k trace = take-take k n trace (omega arith) in
       let there : slice_index (take n trace) k ≡ slice_index trace k = get_or-take n trace k 0 lt in
       subst (λ m. MayFollow phrase i (take k trace) m) there (subst (λ ahead. MayFollow phrase i ahead (slice_index (take n trace) k)) same (s.each k (omega (arith, length-take-le n trace le, lt))));
-}
-
-pub none_stand : (phrase : Term) (i : ℕ) (trace : List ℕ) → StandsUpTo phrase i trace 0
-none_stand phrase i trace = record { each = λ k lt. absurd (omega arith) }
-
-pub more_stand : (phrase : Term) (i : ℕ) (trace : List ℕ) (n : ℕ) → StandsUpTo phrase i trace n → MayFollow phrase i (take n trace) (slice_index trace n) → StandsUpTo phrase i trace (n + 1)
-more_stand phrase i trace n s m = record {
-  each = λ k lt. elim (cases_lt k n) [
-    | inl less ↦ s.each k less
-    | inr ge ↦
-        let e : n ≡ k = omega arith in
-        subst (λ j. MayFollow phrase i (take j trace) (slice_index trace j)) e m
-  ];
 }
 
 -- no two numbers of a trace so far are equal
@@ -99,13 +77,6 @@ ready_from phrase i y ahead event s direct x b =
           let h = subst (λ z. IsBefore phrase i x z) (sym is) w.1.1 in
           contains_front ahead there.0 x (omega (arith, there.1)) ((s.each there.0 there.1).ready x h)
     ]
-
--- a list in which each position may follow, and that has each event, is a trace
-pub trace_from : (phrase : Term) (trace : List ℕ) → StandsUpTo phrase 0 trace (length trace) → ((n : ℕ) → n < event_count phrase → Contains trace n) → IsTrace phrase 0 trace
-trace_from phrase trace s whole = record {
-  so_far = record { each = s.each };
-  whole = λ n event. whole n (omega (arith, event.below));
-}
 
 add_back : (i x : ℕ) → i ≤ x → i + (x - i) ≡ x
 add_back i x le = omega arith

@@ -2,6 +2,7 @@ pub mod Order
 pub mod Trace
 pub mod Events
 pub mod System
+pub mod Letting
 pub mod Needs
 pub mod Sought
 pub mod Lacking

@@ -1,5 +1,5 @@
 -- Event systems without pointers (POST 2019): what clauses see of an `EventSystem`.
-use Rattle.std.specs.Prelude.{◌≡◌, ◌+◌, ◌⊎◌, ℕ, List, [], ◌∷◌, ◌++◌}
+use Rattle.std.specs.Prelude.{◌≡◌, ◌+◌, ◌⊎◌, ℕ, Bool, true, false, List, [], ◌∷◌, ◌++◌}
 use Rattle.phrase_tree.specs.Term.{Term, leaf as leaf_of, at, chain, seq, par}
 use Rattle.phrase_tree.specs.Numbering.{event_count}
 use Rattle.phrase_tree.specs.Events.{Event, requests, replies, splits, joins, event, leaf_kind}
@@ -18,6 +18,10 @@ abbrev pub system : EventSystem → System
 system (Leaf happened) = leaf (event_of happened)
 system (Before' p left q right) = before (system left) (system right)
 system (Merge' p left q right) = merge (system left) (system right)
+
+abbrev pub is_leaf : System → Bool
+is_leaf (leaf happened) = true
+is_leaf _ = false
 
 -- the events of an event system, from left to right
 abbrev pub leaves : System → List Event

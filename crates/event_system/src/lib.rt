@@ -3,6 +3,7 @@
 //! what is wrong with a list of events that should be a trace. The numbers are this project's own.
 #![tactic(auto)]
 
+mod building;
 mod direct;
 mod event;
 mod fault;

@@ -1,17 +1,19 @@
-ghost use Rattle.std.specs.Prelude.{◌≡◌, ◌+◌, ◌<◌, ◌^◌, ◌↔◌, ℕ, IfOk};
+ghost use Rattle.std.specs.Prelude.{◌≡◌, ◌+◌, ◌*◌, ◌<◌, ◌↔◌, ℕ, true, false, IfOk};
 ghost use Rattle.phrase_tree.specs.Term.{term};
-ghost use Rattle.phrase_tree.specs.Numbering.{event_count, IsSized};
+ghost use Rattle.phrase_tree.specs.Numbering.{IsSized};
 ghost use Rattle.phrase_tree.specs.Events.{events_of};
 ghost use Rattle.event_system.specs.Order.{IsBefore};
-ghost use Rattle.event_system.specs.Events.{event_of};
-ghost use Rattle.event_system.specs.System.{leaf, before as before_of, merge as merge_of, system, system_from, leaves, Orders};
+ghost use Rattle.event_system.specs.System.{is_leaf, system, system_from, leaves, Orders};
+ghost use Rattle.event_system.specs.Letting.{steps};
 
-use crate::event::{Event, EventKind};
+use crate::building::whole_system;
+use crate::event::Event;
 use phrase_tree::{NoMemory, Phrase, Place};
 use std::alloc::Global;
+use std::mem;
 
 /// The event system of a phrase (POST 2019): its events as leaves, and how they are ordered.
-#[derive(Debug, Drop)]
+#[derive(Debug)]
 pub enum EventSystem {
     Leaf(Event),
     /// All of the first is before all of the second.
@@ -20,124 +22,76 @@ pub enum EventSystem {
     Merge(Box<EventSystem>, Box<EventSystem>),
 }
 
-// The event system of a part of a phrase, and the number after its last event.
-#[derive(Drop)]
-struct Part {
-    system: EventSystem,
-    next: u32,
-}
+impl EventSystem {
+    // Lets go of a leaf.
+    fn end(self)
+        requires { is_leaf (system self) ≡ true }
+    {
+        match self {
+            EventSystem::Leaf(_) => {}
+            _ => unreachable!(),
+        }
+    }
 
-fn leaf(number: u32, kind: EventKind, place: Place) -> EventSystem
-    ensures { system result ≡ leaf (event_of (record { number = number; kind = kind; place = place })) }
-{
-    EventSystem::Leaf(Event {
-        number,
-        kind,
-        place,
-    })
-}
+    // Gives its left part for the other system, and becomes the rest. A leaf stays as it is.
+    fn turn(&mut self, other: &mut Box<EventSystem>) -> bool
+        ensures turned { result ≡ true →
+            1 + 2 * steps (system other.new.value) + steps (system self.new)
+            < 1 + 2 * steps (system self.old) + steps (system other.old.value) }
+        ensures leaf { result ≡ false → is_leaf (system self.new) ≡ true }
+        ensures stays { result ≡ false → other.new ≡ other.old }
+    {
+        match self {
+            EventSystem::Leaf(_) => false,
+            EventSystem::Before(left, right) => {
+                turn_parts(left, right, other);
+                true
+            }
+            EventSystem::Merge(left, right) => {
+                turn_parts(left, right, other);
+                true
+            }
+        }
+    }
 
-// A part that is one event.
-fn single(number: u32, kind: EventKind, place: Place) -> Part
-    requires { number + 1 < 2 ^ 32 }
-    ensures system { system result.system
-        ≡ leaf (event_of (record { number = number; kind = kind; place = place })) }
-    ensures next { result.next ≡ number + 1 }
-{
-    Part {
-        system: leaf(number, kind, place),
-        next: number + 1,
+    // What is left of two parts after one step.
+    fn after_a_step(mut left: Box<EventSystem>, mut right: Box<EventSystem>) -> EventSystem
+        ensures { steps (system result) < 1 + 2 * steps (system left.value) + steps (system right.value) }
+    {
+        if left.turn(&mut right) {
+            return EventSystem::Before(right, left);
+        }
+        Box::into_inner(left).end();
+        Box::into_inner(right)
     }
 }
 
-fn before(alloc: Global, left: EventSystem, right: EventSystem) -> Result<EventSystem, NoMemory>
-    ensures { IfOk result (λ whole. system whole ≡ before_of (system left) (system right)) }
+// The parts of a pair become its right part and another, which becomes its left part.
+fn turn_parts(
+    left: &mut Box<EventSystem>,
+    right: &mut Box<EventSystem>,
+    other: &mut Box<EventSystem>,
+)
+    ensures left { left.new ≡ right.old }
+    ensures right { right.new ≡ other.old }
+    ensures other { other.new ≡ left.old }
 {
-    Ok(EventSystem::Before(Box::new(alloc, left)?, Box::new(alloc, right)?))
+    mem::swap(left, right);
+    mem::swap(right, other);
 }
 
-fn merge(alloc: Global, left: EventSystem, right: EventSystem) -> Result<EventSystem, NoMemory>
-    ensures { IfOk result (λ whole. system whole ≡ merge_of (system left) (system right)) }
-{
-    Ok(EventSystem::Merge(Box::new(alloc, left)?, Box::new(alloc, right)?))
-}
-
-// A first event, what is inside, and a last event.
-fn framed(
-    alloc: Global,
-    first: EventSystem,
-    inside: Part,
-    kind: EventKind,
-    place: Place,
-) -> Result<Part, NoMemory>
-    requires { inside.next + 1 < 2 ^ 32 }
-    ensures system { IfOk result
-        (λ whole. system whole.system
-        ≡ before_of (system first)
-        (before_of (system inside.system)
-        (leaf (event_of (record { number = inside.next; kind = kind; place = place }))))) }
-    ensures next { IfOk result (λ whole. whole.next ≡ inside.next + 1) }
-{
-    let last = leaf(inside.next, kind, place);
-    let rest = before(alloc, inside.system, last)?;
-    Ok(Part {
-        system: before(alloc, first, rest)?,
-        next: inside.next + 1,
-    })
-}
-
-fn system_part(alloc: Global, phrase: &Phrase, place: Place, first: u32) -> Result<Part, NoMemory>
-    requires { first + event_count (term phrase.now) < 2 ^ 32 }
-    ensures system { IfOk result
-        (λ part. system part.system ≡ system_from (term phrase.now) place first) }
-    ensures next { IfOk result (λ part. part.next ≡ first + event_count (term phrase.now)) }
-{
-    match phrase {
-        Phrase::Cpy => Ok(single(first, EventKind::Cpy, place)),
-        Phrase::Sig => Ok(single(first, EventKind::Sig, place)),
-        Phrase::Hsh => Ok(single(first, EventKind::Hsh, place)),
-        Phrase::Nul => Ok(single(first, EventKind::Nul, place)),
-        Phrase::Usm(asp) => Ok(single(first, EventKind::Usm(asp.copy()), place)),
-        Phrase::Kim(target, asp) => Ok(single(first, EventKind::Kim(*target, asp.copy()), place)),
-        Phrase::At(asked, body) => {
-            let body = system_part(alloc, body, *asked, first + 1)?;
-            let request = leaf(first, EventKind::Req(*asked), place);
-            framed(alloc, request, body, EventKind::Rpl(*asked), place)
-        }
-        Phrase::Then(left, right) => {
-            let left = system_part(alloc, left, place, first)?;
-            let right = system_part(alloc, right, place, left.next)?;
-            let system = before(alloc, left.system, right.system)?;
-            Ok(Part {
-                system,
-                next: right.next,
-            })
-        }
-        Phrase::Seq(_, left, right) => {
-            let left = system_part(alloc, left, place, first + 1)?;
-            let right = system_part(alloc, right, place, left.next)?;
-            let system = before(alloc, left.system, right.system)?;
-            let next = right.next;
-            let split = leaf(first, EventKind::Split, place);
-            framed(alloc, split, Part { system, next }, EventKind::Join, place)
-        }
-        Phrase::Par(_, left, right) => {
-            let left = system_part(alloc, left, place, first + 1)?;
-            let right = system_part(alloc, right, place, left.next)?;
-            let system = merge(alloc, left.system, right.system)?;
-            let next = right.next;
-            let split = leaf(first, EventKind::Split, place);
-            framed(alloc, split, Part { system, next }, EventKind::Join, place)
+// A loop that takes no memory: however long or deep a system is, letting it go takes the same stack.
+impl Drop for EventSystem {
+    fn drop(mut self) {
+        loop {
+            match self {
+                EventSystem::Leaf(_) => return,
+                EventSystem::Before(left, right) | EventSystem::Merge(left, right) => {
+                    self = EventSystem::after_a_step(left, right)
+                }
+            }
         }
     }
-}
-
-fn whole_system(alloc: Global, phrase: &Phrase, place: Place) -> Result<EventSystem, NoMemory>
-    requires { IsSized (term phrase.now) }
-    ensures { IfOk result (λ made. system made ≡ system_from (term phrase.now) place 0) }
-{
-    let whole = system_part(alloc, phrase, place, 0)?;
-    Ok(whole.system)
 }
 
 /// The event system of a phrase that starts at `place`, with events numbered from 0. Its leaves from

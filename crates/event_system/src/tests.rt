@@ -1,9 +1,9 @@
-ghost use Rattle.std.specs.Prelude.{IfOk};
+ghost use Rattle.std.specs.Prelude.{◌≤◌, ◌+◌, ◌*◌, IfOk};
 ghost use Rattle.phrase_tree.specs.Term.{term};
 ghost use Rattle.phrase_tree.specs.Numbering.{IsSized};
 
 use super::*;
-use phrase_tree::{Args, Asp, Name, Phrase, Place, Split};
+use phrase_tree::{Args, Asp, BRACKETS, EVENTS, Name, Phrase, Place, Split};
 use std::alloc::{AllocError, Global};
 use std::process::Abort;
 use std::test::Fail;
@@ -236,12 +236,54 @@ fn a_request_comes_first_in_its_system(rt: HostRuntime) -> Result<(), Fail> {
     let bank = Name::read("bank").ok_or("bank")?;
     let q = Name::read("q").ok_or("q")?;
     let phrase = to_and_fro(rt.alloc(), q, bank)?;
-    match system_of(rt.alloc(), &phrase, bank)? {
-        EventSystem::Before(first, _) => match &*first {
+    match &system_of(rt.alloc(), &phrase, bank)? {
+        EventSystem::Before(first, _) => match &**first {
             EventSystem::Leaf(event) => assert!(rt; event.kind == EventKind::Req(q)),
             _ => return Err("no leaf".into()),
         },
         _ => return Err("no order".into()),
     }
     Ok(())
+}
+
+// `CPY -> SIG -> SIG ..` with so many seals, in so many requests.
+fn enclosed(alloc: Global, place: Place, seals: u32, requests: u32) -> Result<Phrase, AllocError>
+    requires few { 1 + seals + 2 * requests ≤ EVENTS }
+    requires nested { requests ≤ BRACKETS }
+    ensures { IfOk result (λ phrase. IsSized (term phrase)) }
+{
+    let mut phrase = Phrase::Cpy;
+    for sealed in 0..seals {
+        phrase = Phrase::Then(Box::new(alloc, phrase)?, Box::new(alloc, Phrase::Sig)?);
+    }
+    for open in 0..requests {
+        phrase = Phrase::At(place, Box::new(alloc, phrase)?);
+    }
+    Ok(phrase)
+}
+
+// All calls that walk a phrase or a system, on phrases of the most events.
+fn expect_walked(rt: &impl Abort, alloc: Global, phrase: &Phrase, place: Place) -> Result<(), Fail>
+    requires { IsSized (term phrase.now) }
+{
+    let list = list_of(alloc, phrase, place)?;
+    assert_eq!(rt; list.items().len(), EVENTS as usize);
+    assert_eq!(rt; needs(phrase, EVENTS - 1), one(EVENTS - 2));
+    assert!(rt; before(phrase, 0, EVENTS - 1));
+    assert!(rt; !before(phrase, EVENTS - 1, 0));
+    assert_eq!(rt; trace_fault(phrase, &[0, 2]), early(1, 2, 1));
+    let system = system_of(alloc, phrase, place)?;
+    assert!(rt; matches!(&system, EventSystem::Before(_, _)));
+    Ok(())
+}
+
+// The longest chain, and the deepest nesting of brackets with the longest chain that goes with it.
+#[test]
+fn the_longest_and_the_deepest_phrases_are_walked(rt: HostRuntime) -> Result<(), Fail> {
+    let alloc = rt.alloc();
+    let bank = Name::read("bank").ok_or("bank")?;
+    let longest = enclosed(alloc, bank, EVENTS - 1, 0)?;
+    expect_walked(&rt, alloc, &longest, bank)?;
+    let deepest = enclosed(alloc, bank, EVENTS - 1 - 2 * BRACKETS, BRACKETS)?;
+    expect_walked(&rt, alloc, &deepest, bank)
 }

@@ -1,5 +1,5 @@
 -- More evidence makes more evidence, and a phrase that is nowhere oversize stays within the limits.
-use Rattle.std.proofs.Common.{◌≡◌, ◌≤◌, ◌+◌, ℕ, Bool, true, false, cond, List, [], ◌∷◌, ◌++◌, Option, None, Some, max, min, nat_lt, refl, length, length-append, arith}
+use Rattle.std.proofs.Common.{◌≡◌, ◌≤◌, ◌+◌, ℕ, Bool, true, false, cond, List, [], ◌∷◌, ◌++◌, Option, None, Some, nat_lt, refl, length, length-append, arith}
 use Rattle.std.proofs.lemmas.Bool.{ltb-false}
 use Rattle.phrase_tree.specs.Term.{Term, Leaf, cpy, sig, hsh, nul, usm, kim, leaf, at, chain, seq, par}
 use Rattle.phrase_tree.specs.Numbering.{event_count}
@@ -7,9 +7,9 @@ use Rattle.evidence_types.specs.declared.measure.Measure.{Measure}
 use Rattle.evidence_types.specs.declared.measure.Measure.TheVariants.{Weight, Nest}
 use Rattle.evidence_types.specs.Amount.{amount}
 use Rattle.evidence_types.specs.Answer.{FitsAnswer}
-use Rattle.evidence_types.specs.Bytes.{be16, be32, encoding, nesting}
-use Rattle.evidence_types.specs.Evidence.{Evidence, empty, nonce, usm as measured, kim as measured_at, seal, hash, seq_pair, par_pair}
-use Rattle.evidence_types.specs.Measure.{of_nonce, of_answer, of_digest, of_pair, of_arm, leaf_count, count_after, counts_from, counts, limit, first_past, over_by, lesser, oversize_at, IsLight, StaysWithin}
+use Rattle.evidence_types.specs.Bytes.{be16, be32, encoding}
+use Rattle.evidence_types.specs.Evidence.{Evidence, nonce, usm as measured, kim as measured_at, seal, hash, seq_pair, par_pair}
+use Rattle.evidence_types.specs.Measure.{of_nonce, of_answer, of_digest, of_pair, of_arm, leaf_count, count_after, counts_from, limit, first_past, over_by, lesser, IsLight, StaysWithin}
 
 -- the amounts of the forms of evidence
 pub amount-measured : (m : Measure) (event : ℕ) (answer : List ℕ) (under : Evidence) → FitsAnswer answer → amount m (measured event answer under) ≤ of_answer m + amount m under

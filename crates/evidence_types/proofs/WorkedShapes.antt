@@ -1,5 +1,5 @@
 -- Shapes, their texts and weights, worked outside this project: an edit of the definitions is refused here.
-use Rattle.std.proofs.Common.{◌≡◌, ℕ, List, [], ◌∷◌, None, Some, suc, zero, true, false, refl}
+use Rattle.std.proofs.Common.{◌≡◌, ℕ, List, [], ◌∷◌, map, None, Some, suc, zero, true, false, refl}
 use Rattle.std.specs.Prelude.{codes}
 use Rattle.std.specs.Fmt.{digits}
 use Rattle.phrase_tree.specs.declared.measurement.Arg.TheVariants.{Word}
@@ -8,10 +8,10 @@ use Rattle.phrase_tree.specs.declared.measurement.Asp.{Asp}
 use Rattle.phrase_tree.specs.declared.phrase.Split.{Split}
 use Rattle.phrase_tree.specs.Term.{Term, cpy, sig, hsh, nul, usm, kim, leaf, at, chain, seq, par}
 use Rattle.evidence_types.specs.Evidence.{empty, nonce, usm as usm_value, hash, par_pair, seq_pair}
-use Rattle.evidence_types.specs.Shape.{Fits, shape_at}
+use Rattle.evidence_types.specs.Shape.{Fits, shape_at, shapes_from, the_nonce}
 use Rattle.evidence_types.specs.ShapeText.{shape_text}
 use Rattle.evidence_types.specs.declared.measure.Measure.TheVariants.{Weight, Nest}
-use Rattle.evidence_types.specs.Measure.{counts, oversize_at, over_by, worst_weight}
+use Rattle.evidence_types.specs.Measure.{counts, oversize_at, worst_weight}
 
 abbrev both : Split
 both = record { left = true; right = true }
@@ -47,6 +47,10 @@ left_arm_alone_gets_the_nonce = refl
 
 two_arms_weigh : counts Weight two_arms ≡ (1, 1048) ∷ (2, 1032) ∷ (3, 2081) ∷ []
 two_arms_weigh = refl
+
+two_arms_make : map {B = ℕ × List ℕ} (λ made. (made.0, shape_text made.1)) (shapes_from two_arms (codes "bank") 0 the_nonce) ≡ (1, codes "U(bank,1,a,N)") ∷ (2, codes "U(bank,2,b,E)") ∷ (3, codes "P(U(bank,1,a,N),U(bank,2,b,E))") ∷ []
+unfolding digits
+two_arms_make = refl
 
 neither_arm_gets_the_nonce : shape_text (shape_at (seq neither (leaf cpy) (leaf cpy)) (codes "bank")) ≡ codes "S(E,E)"
 neither_arm_gets_the_nonce = refl

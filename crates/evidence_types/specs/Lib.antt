@@ -6,3 +6,5 @@ pub mod Amount
 pub mod Shape
 pub mod Measure
 pub mod ShapeText
+pub mod ValueLetting
+pub mod ShapeLetting

@@ -43,6 +43,10 @@ measure m (hashed event place under) = of_digest m + measure m under
 measure m (in_sequence left right) = of_pair m (measure m left) (measure m right)
 measure m (in_parallel left right) = of_pair m (measure m left) (measure m right)
 
+-- the count of the shape that an event makes
+abbrev pub count_of : Measure → ℕ × Form → ℕ × ℕ
+count_of m made = (made.0, measure m made.1)
+
 -- the count that an arm of a branch starts with
 abbrev pub of_arm : Bool → ℕ → ℕ
 of_arm gets_all before = if gets_all then before else 1

@@ -1,5 +1,5 @@
 -- The shapes of evidence without pointers, the shape of a phrase, and which values fit a shape.
-use Rattle.std.specs.Prelude.{◌≡◌, ◌+◌, ℕ, List, Bool, if◌then◌else◌}
+use Rattle.std.specs.Prelude.{◌≡◌, ◌+◌, ℕ, List, [], ◌∷◌, ◌++◌, Bool, if◌then◌else◌}
 use Rattle.phrase_tree.specs.declared.measurement.Asp.{Asp}
 use Rattle.phrase_tree.specs.Term.{Term, Leaf, cpy, sig, hsh, nul, usm, kim, leaf, at, chain, seq, par}
 use Rattle.phrase_tree.specs.Numbering.{event_count}
@@ -60,6 +60,18 @@ shape_from (par split left right) place i before =
     in_parallel
     (shape_from left place (i + 1) (arm_shape split.left before))
     (shape_from right place (i + 1 + event_count left) (arm_shape split.right before))
+
+-- the events that make evidence, which are the leaves and the joins, each with the shape that it makes, in
+-- the order of their numbers
+abbrev pub shapes_from : Term → List ℕ → ℕ → Form → List (ℕ × Form)
+shapes_from (leaf form) place i before = (i, leaf_shape form place i before) ∷ []
+shapes_from (at asked body) place i before = shapes_from body asked (i + 1) before
+shapes_from (chain left right) place i before =
+    shapes_from left place i before ++ shapes_from right place (i + event_count left) (shape_from left place i before)
+shapes_from (seq split left right) place i before =
+    shapes_from left place (i + 1) (arm_shape split.left before) ++ (shapes_from right place (i + 1 + event_count left) (arm_shape split.right before) ++ (i + 1 + event_count left + event_count right, shape_from (seq split left right) place i before) ∷ [])
+shapes_from (par split left right) place i before =
+    shapes_from left place (i + 1) (arm_shape split.left before) ++ (shapes_from right place (i + 1 + event_count left) (arm_shape split.right before) ++ (i + 1 + event_count left + event_count right, shape_from (par split left right) place i before) ∷ [])
 
 -- the shape of a session's evidence: that of its phrase at its root, from event 0 on the nonce
 abbrev pub shape_at : Term → List ℕ → Form

@@ -11,7 +11,7 @@ pub const ANSWER_BYTES: usize = 1024;
 /// What a measurer answered: at most 1,024 bytes, which lie in the value itself.
 #[derive(Debug, Drop, PartialEq, Eq)]
 pub struct Answer {
-    bytes: ArrayVec<u8, 1024>,
+    bytes: ArrayVec<u8, ANSWER_BYTES>,
 }
 
 impl Model for Answer {

@@ -20,11 +20,13 @@ mod text;
 mod value;
 mod weight;
 
-pub use answer::Answer;
+pub use answer::{ANSWER_BYTES, Answer};
 pub use answers::Answers;
 pub use measure::{Measure, VALUE_BYTES, VALUE_NESTING};
 pub use shape::Shape;
 pub use shaping::shape_of;
 pub use text::shape_text;
 pub use value::Value;
-pub use weight::{count_is_of_shape, first_over, light_phrases_stay_within, worst};
+pub use weight::{
+    count_is_of_shape, counts_are_of_shapes, first_over, light_phrases_stay_within, worst,
+};

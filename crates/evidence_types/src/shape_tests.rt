@@ -5,7 +5,7 @@ ghost use Rattle.phrase_tree.specs.Numbering.{IsSized, depth, event_count};
 use crate::shaping::shape_of;
 use crate::text::shape_text;
 use crate::weight::{first_over, worst};
-use phrase_tree::{Arg, Args, Asp, EVENTS, Name, NoMemory, Phrase, Split};
+use phrase_tree::{Arg, Args, Asp, BRACKETS, EVENTS, Name, NoMemory, Phrase, Place, Split};
 use std::alloc::Global;
 use std::process::Abort;
 use std::test::Fail;
@@ -116,6 +116,7 @@ enum Part {
     Sealed,
     Emptied,
     Branched,
+    Copied,
 }
 
 fn one_more(rt: &impl Abort, alloc: Global, part: Part) -> Result<Phrase, NoMemory>
@@ -131,6 +132,15 @@ fn one_more(rt: &impl Abort, alloc: Global, part: Part) -> Result<Phrase, NoMemo
             alloc,
             Split {
                 left: false,
+                right: true,
+            },
+            Phrase::Cpy,
+            Phrase::Cpy,
+        ),
+        Part::Copied => both_ways(
+            alloc,
+            Split {
+                left: true,
                 right: true,
             },
             Phrase::Cpy,
@@ -201,5 +211,68 @@ fn the_nest_of_long_chains_ends_at_its_limit(rt: HostRuntime) -> Result<(), Fail
         assert_eq!(rt; worst(&phrase), weight);
         assert_eq!(rt; first_over(&phrase), over);
     }
+    Ok(())
+}
+
+/// `CPY -> SIG .. -> CPY ..` with so many seals and so many more copies, in so many requests.
+fn enclosed(
+    alloc: Global,
+    place: Place,
+    seals: u32,
+    copies: u32,
+    requests: u32,
+) -> Result<Phrase, NoMemory>
+    requires few { 1 + seals + copies + 2 * requests ≤ EVENTS }
+    requires nested { requests ≤ BRACKETS }
+    ensures { IfOk result (λ phrase. IsSized (term phrase)) }
+{
+    let mut phrase = Phrase::Cpy;
+    for sealed in 0..seals {
+        phrase = then(alloc, phrase, Phrase::Sig)?;
+    }
+    for copied in 0..copies {
+        phrase = then(alloc, phrase, Phrase::Cpy)?;
+    }
+    for open in 0..requests {
+        phrase = Phrase::At(place, Box::new(alloc, phrase)?);
+    }
+    Ok(phrase)
+}
+
+/// Checks the greatest weight of a phrase, and how the text of its shape at the place `bank` begins.
+fn expect_front(
+    rt: &impl Abort,
+    alloc: Global,
+    phrase: &Phrase,
+    weight: u32,
+    front: &[u8],
+) -> Result<(), NoMemory>
+    requires { IsSized (term phrase.now) }
+{
+    assert_eq!(rt; worst(phrase), weight);
+    let None = first_over(phrase) else {
+        assert!(rt; false, "an event is over");
+        return Ok(());
+    };
+    let shape = shape_of(alloc, phrase, name(rt, "bank"))?;
+    let found = shape_text(alloc, &shape)?;
+    assert!(rt; found.items().starts_with(front));
+    Ok(())
+}
+
+// The longest chain, and the deepest nesting of brackets with the longest chain that goes with it, both
+// with the deepest shape; and the deepest shape of which a branch takes a copy.
+#[test]
+fn the_longest_and_the_deepest_phrases_are_shaped(rt: HostRuntime) -> Result<(), Fail> {
+    let alloc = rt.alloc();
+    let bank = name(&rt, "bank");
+    let longest = enclosed(alloc, bank, 1024, 1023, 0)?;
+    expect_front(&rt, alloc, &longest, 37905, b"G(bank,1024,G(bank,1023,")?;
+    let deepest = enclosed(alloc, bank, 1024, 895, BRACKETS)?;
+    expect_front(&rt, alloc, &deepest, 37905, b"G(bank,1088,G(bank,1087,")?;
+    let seals = followed(&rt, alloc, Phrase::Cpy, Part::Sealed, 1023)?;
+    let copied = followed(&rt, alloc, seals, Part::Copied, 1)?;
+    assert!(rt; copied.events() <= EVENTS);
+    expect_front(&rt, alloc, &copied, 75737, b"S(G(bank,1023,G(bank,1022,")?;
     Ok(())
 }

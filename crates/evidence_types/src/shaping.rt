@@ -1,7 +1,7 @@
-ghost use Rattle.std.specs.Prelude.{◌≡◌, ◌<◌, ◌+◌, ◌^◌, IfOk};
+ghost use Rattle.std.specs.Prelude.{◌≡◌, ◌<◌, ◌+◌, ◌^◌, if◌then◌else◌, IfOk};
 ghost use Rattle.phrase_tree.specs.Term.{term};
 ghost use Rattle.phrase_tree.specs.Numbering.{IsSized, event_count};
-ghost use Rattle.evidence_types.specs.Shape.{arm_shape, form, hashed, in_parallel, in_sequence, measured, measured_at, sealed, shape_at, shape_from};
+ghost use Rattle.evidence_types.specs.Shape.{Form, arm_shape, form, hashed, in_parallel, in_sequence, measured, measured_at, sealed, shape_at, shape_from};
 ghost use Rattle.evidence_types.specs.Measure.{IsLight};
 
 use crate::shape::Shape;
@@ -232,6 +232,29 @@ fn arm(alloc: Global, gets_all: bool, before: Box<Shape>) -> Result<Box<Shape>, 
     boxed(alloc, Shape::Empty)
 }
 
+/// A pair of a copy and what came of copying its right part. Where that got no memory the left one is let
+/// go here, which takes a large frame.
+#[inline(never)]
+fn pair(
+    alloc: Global,
+    parallel: bool,
+    left: Box<Shape>,
+    right: Result<Box<Shape>, NoMemory>,
+) -> Result<Box<Shape>, NoMemory>
+    ensures { (last : Form) → IfOk right (λ made. form made.value ≡ last) →
+        IfOk result (λ made. form made.value ≡ (if parallel then in_parallel (form left.value) last else in_sequence (form left.value) last)) }
+{
+    match right {
+        Ok(right) => {
+            if parallel {
+                return par_pair(alloc, left, right);
+            }
+            seq_pair(alloc, left, right)
+        }
+        Err(_) => Err(NoMemory),
+    }
+}
+
 /// The same shape again.
 fn copy_of(alloc: Global, shape: &Shape) -> Result<Box<Shape>, NoMemory>
     ensures { IfOk result (λ copy. form copy.value ≡ form shape.now) }
@@ -257,13 +280,13 @@ fn copy_of(alloc: Global, shape: &Shape) -> Result<Box<Shape>, NoMemory>
         }
         Shape::SeqPair(left, right) => {
             let first = copy_of(alloc, left)?;
-            let second = copy_of(alloc, right)?;
-            seq_pair(alloc, first, second)
+            let second = copy_of(alloc, right);
+            pair(alloc, false, first, second)
         }
         Shape::ParPair(left, right) => {
             let first = copy_of(alloc, left)?;
-            let second = copy_of(alloc, right)?;
-            par_pair(alloc, first, second)
+            let second = copy_of(alloc, right);
+            pair(alloc, true, first, second)
         }
     }
 }

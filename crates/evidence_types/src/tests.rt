@@ -1,4 +1,4 @@
-use crate::{Answer, Answers};
+use crate::{Answer, Answers, VALUE_NESTING, Value};
 use std::test::Fail;
 
 #[test]
@@ -39,5 +39,21 @@ fn answers_stand_by_their_events(rt: HostRuntime) -> Result<(), Fail> {
         (0, [0xaa, 0xbb].as_slice())
     );
     assert_eq!(rt; (pairs[1].0, pairs[1].1.bytes().len()), (7, 0));
+    Ok(())
+}
+
+// Letting go of a value takes the same stack at any depth, on the left and on the right.
+#[test]
+fn the_deepest_values_are_let_go_of(rt: HostRuntime) -> Result<(), Fail> {
+    let alloc = rt.alloc();
+    let mut sealed = Value::Empty;
+    let mut left = Value::Empty;
+    let mut right = Value::Empty;
+    for event in 1..VALUE_NESTING {
+        sealed = Value::Seal(event, [0; 32], Box::new(alloc, sealed)?);
+        left = Value::SeqPair(Box::new(alloc, left)?, Box::new(alloc, Value::Empty)?);
+        right = Value::ParPair(Box::new(alloc, Value::Empty)?, Box::new(alloc, right)?);
+    }
+    assert!(rt; matches!(&sealed, Value::Seal(1024, _, _)));
     Ok(())
 }

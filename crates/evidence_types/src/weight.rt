@@ -1,9 +1,9 @@
-ghost use Rattle.std.specs.Prelude.{◌≡◌, ◌≤◌, ◌<◌, ◌+◌, ◌^◌, ◌↔◌, [], ◌∷◌, ℕ, Some, None, max, min, IfOk};
+ghost use Rattle.std.specs.Prelude.{◌≡◌, ◌≤◌, ◌<◌, ◌+◌, ◌^◌, ◌↔◌, [], ◌∷◌, ℕ, List, Some, None, map, max, min, IfOk};
 ghost use Rattle.std.specs.Result.{result_err};
-ghost use Rattle.phrase_tree.specs.Term.{term};
+ghost use Rattle.phrase_tree.specs.Term.{Term, term};
 ghost use Rattle.phrase_tree.specs.Numbering.{IsSized, event_count};
-ghost use Rattle.evidence_types.specs.Shape.{form, shape_from};
-ghost use Rattle.evidence_types.specs.Measure.{count_after, counts, counts_from, first_past, greatest, lesser, limit, measure, of_arm, of_pair, of_nonce, over_by, oversize_at, worst_weight, IsLight, IsOver, StaysWithin};
+ghost use Rattle.evidence_types.specs.Shape.{Form, form, shape_from, shapes_from};
+ghost use Rattle.evidence_types.specs.Measure.{count_after, count_of, counts, counts_from, first_past, greatest, lesser, limit, measure, of_arm, of_pair, of_nonce, over_by, oversize_at, worst_weight, IsLight, IsOver, StaysWithin};
 ghost use Rattle.evidence_types.specs.declared.measure.Measure.{Measure};
 
 use crate::measure::{EMPTY, Measure, VALUE_BYTES};
@@ -190,6 +190,13 @@ pub fn count_is_of_shape(
     _before: &Shape,
 )
     ensures { measure _measure (shape_from (term _phrase.now) _place _number (form _before.now)) ≡ count_after _measure (term _phrase.now) (measure _measure (form _before.now)) }
+{}
+
+/// The law of the counts at events: each is that of the shape that the event makes, at every place, from
+/// every number on, and of every shape before it.
+pub fn counts_are_of_shapes()
+    ensures { (m : Measure) (phrase : Term) (place : List ℕ) (number : ℕ) (before : Form) →
+        counts_from m phrase number (measure m before) ≡ map (count_of m) (shapes_from phrase place number before) }
 {}
 
 /// A law: a phrase that is nowhere oversize stays within each limit, on what a nonce counts. It does

@@ -42,6 +42,11 @@ term (Then' p left q right) = chain (term left) (term right)
 term (Seq' split p left q right) = seq split (term left) (term right)
 term (Par' split p left q right) = par split (term left) (term right)
 
+-- a leaf
+abbrev pub is_leaf : Term → Bool
+is_leaf (leaf form) = true
+is_leaf _ = false
+
 -- a branch, sequential or parallel
 abbrev pub is_branch : Term → Bool
 is_branch (seq split left right) = true

@@ -6,6 +6,8 @@
 //! that is said about phrases, here and above, goes by cases on the twin.
 #![tactic(auto)]
 
+mod copying;
+pub mod keyword;
 mod lists;
 mod measurement;
 mod memory;

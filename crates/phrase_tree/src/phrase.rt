@@ -1,11 +1,14 @@
-ghost use Rattle.std.specs.Prelude.{◌≡◌, ◌<◌, ◌^◌, ◌||◌, IfOk};
-ghost use Rattle.phrase_tree.specs.Term.{term, is_branch, is_chain};
+ghost use Rattle.std.specs.Prelude.{◌≡◌, ◌<◌, ◌+◌, ◌*◌, ◌^◌, ◌||◌, true, false, IfOk};
+ghost use Rattle.phrase_tree.specs.Term.{term, is_leaf, is_branch, is_chain};
+ghost use Rattle.phrase_tree.specs.Letting.{steps};
 ghost use Rattle.phrase_tree.specs.Numbering.{event_count, depth};
 
+use crate::copying::copied;
 use crate::measurement::Asp;
 use crate::memory::NoMemory;
 use crate::name::Place;
 use std::alloc::Global;
+use std::mem;
 
 /// The greatest number of events of a sized phrase.
 pub const EVENTS: u32 = 2_048;
@@ -22,7 +25,7 @@ pub struct Split {
 
 /// A phrase of Copland (POST 2019): what is measured, where and in which order, and how the evidence is
 /// combined.
-#[derive(Debug, Drop)]
+#[derive(Debug)]
 pub enum Phrase {
     /// The evidence as it is.
     Cpy,
@@ -44,6 +47,98 @@ pub enum Phrase {
     Seq(Split, Box<Phrase>, Box<Phrase>),
     /// Both arms in any order of their events.
     Par(Split, Box<Phrase>, Box<Phrase>),
+}
+
+impl Phrase {
+    // Lets go of a leaf.
+    fn end(self)
+        requires { is_leaf (term self) ≡ true }
+    {
+        match self {
+            Phrase::Cpy
+            | Phrase::Sig
+            | Phrase::Hsh
+            | Phrase::Nul
+            | Phrase::Usm(_)
+            | Phrase::Kim(_, _) => {}
+            _ => unreachable!(),
+        }
+    }
+
+    // Gives its left part for the other phrase, and becomes the rest. A leaf stays as it is.
+    fn turn(&mut self, other: &mut Box<Phrase>) -> bool
+        ensures turned { result ≡ true →
+            1 + 2 * steps (term other.new.value) + steps (term self.new)
+            < 1 + 2 * steps (term self.old) + steps (term other.old.value) }
+        ensures leaf { result ≡ false → is_leaf (term self.new) ≡ true }
+        ensures stays { result ≡ false → other.new ≡ other.old }
+    {
+        match self {
+            Phrase::Cpy
+            | Phrase::Sig
+            | Phrase::Hsh
+            | Phrase::Nul
+            | Phrase::Usm(_)
+            | Phrase::Kim(_, _) => false,
+            Phrase::At(_, body) => {
+                mem::swap(body, other);
+                true
+            }
+            Phrase::Then(left, right) => {
+                turn_parts(left, right, other);
+                true
+            }
+            Phrase::Seq(_, left, right) => {
+                turn_parts(left, right, other);
+                true
+            }
+            Phrase::Par(_, left, right) => {
+                turn_parts(left, right, other);
+                true
+            }
+        }
+    }
+
+    // What is left of two parts after one step.
+    fn after_a_step(mut left: Box<Phrase>, mut right: Box<Phrase>) -> Phrase
+        ensures { steps (term result) < 1 + 2 * steps (term left.value) + steps (term right.value) }
+    {
+        if left.turn(&mut right) {
+            return Phrase::Then(right, left);
+        }
+        Box::into_inner(left).end();
+        Box::into_inner(right)
+    }
+}
+
+// The parts of a pair become its right part and another, which becomes its left part.
+fn turn_parts(left: &mut Box<Phrase>, right: &mut Box<Phrase>, other: &mut Box<Phrase>)
+    ensures left { left.new ≡ right.old }
+    ensures right { right.new ≡ other.old }
+    ensures other { other.new ≡ left.old }
+{
+    mem::swap(left, right);
+    mem::swap(right, other);
+}
+
+// A loop that takes no memory: however long or deep a phrase is, letting it go takes the same stack.
+impl Drop for Phrase {
+    fn drop(mut self) {
+        loop {
+            match self {
+                Phrase::Cpy
+                | Phrase::Sig
+                | Phrase::Hsh
+                | Phrase::Nul
+                | Phrase::Usm(_)
+                | Phrase::Kim(_, _) => { return }
+                Phrase::At(_, body) => self = Box::into_inner(body),
+                Phrase::Then(left, right)
+                | Phrase::Seq(_, left, right)
+                | Phrase::Par(_, left, right) => self = Phrase::after_a_step(left, right),
+            }
+        }
+    }
 }
 
 impl Phrase {
@@ -119,30 +214,7 @@ impl Phrase {
     pub fn try_copy(&self, alloc: Global) -> Result<Phrase, NoMemory>
         ensures { IfOk result (λ copy. term copy ≡ term self.now) }
     {
-        Ok(match self {
-            Phrase::Cpy => Phrase::Cpy,
-            Phrase::Sig => Phrase::Sig,
-            Phrase::Hsh => Phrase::Hsh,
-            Phrase::Nul => Phrase::Nul,
-            Phrase::Usm(asp) => Phrase::Usm(asp.copy()),
-            Phrase::Kim(target, asp) => Phrase::Kim(*target, asp.copy()),
-            Phrase::At(place, body) => {
-                Phrase::At(*place, Box::new(alloc, body.try_copy(alloc)?)?)
-            }
-            Phrase::Then(left, right) => Phrase::Then(
-                Box::new(alloc, left.try_copy(alloc)?)?,
-                Box::new(alloc, right.try_copy(alloc)?)?,
-            ),
-            Phrase::Seq(split, left, right) => Phrase::Seq(
-                *split,
-                Box::new(alloc, left.try_copy(alloc)?)?,
-                Box::new(alloc, right.try_copy(alloc)?)?,
-            ),
-            Phrase::Par(split, left, right) => Phrase::Par(
-                *split,
-                Box::new(alloc, left.try_copy(alloc)?)?,
-                Box::new(alloc, right.try_copy(alloc)?)?,
-            ),
-        })
+        let copy = copied(alloc, self)?;
+        Ok(Box::into_inner(copy))
     }
 }

@@ -1,7 +1,8 @@
-ghost use Rattle.std.specs.Prelude.{◌≡◌, IfOk};
+ghost use Rattle.std.specs.Prelude.{◌≡◌, ◌<◌, ◌+◌, ◌*◌, ◌^◌, IfOk};
 ghost use Rattle.phrase_tree.specs.Term.{term, at, chain, seq, par};
+ghost use Rattle.phrase_tree.specs.Numbering.{event_count};
 
-use crate::{Arg, Args, Asp, Name, Names, Phrase, Place, Split, Trace};
+use crate::{Arg, Args, Asp, BRACKETS, EVENTS, Name, Names, Phrase, Place, Split, Trace};
 use std::alloc::{AllocFailed, Global};
 use std::cmp::Ordering;
 use std::process::Abort;
@@ -195,4 +196,111 @@ fn every_form_has_its_events_and_its_depth_and_is_copied(rt: HostRuntime) -> Res
     let again = format!(in alloc; "{copy:?}")?;
     assert_eq!(rt; first.as_str(), again.as_str());
     Ok(())
+}
+
+// The depths are the brackets of the canonical texts, which stand beside the phrases.
+#[test]
+fn depths_are_the_brackets_of_the_text(rt: HostRuntime) -> Result<(), Fail> {
+    let alloc = rt.alloc();
+    let q = name(&rt, "q");
+    let both = Split {
+        left: true,
+        right: true,
+    };
+    // USM scan
+    assert_eq!(rt; Phrase::Usm(measurement(&rt, "scan")).depth(), 0);
+    // CPY -> SIG -> HSH
+    let chain = chained(alloc, Phrase::Cpy, Phrase::Sig)?;
+    let left = chained(alloc, chain, Phrase::Hsh)?;
+    assert_eq!(rt; left.depth(), 0);
+    // CPY -> (CPY -> SIG)
+    let chain = chained(alloc, Phrase::Cpy, Phrase::Sig)?;
+    let right = chained(alloc, Phrase::Cpy, chain)?;
+    assert_eq!(rt; right.depth(), 1);
+    // @q [@q [CPY -> (CPY -> SIG)]]
+    let inner = asked(alloc, q, right)?;
+    let outer = asked(alloc, q, inner)?;
+    assert_eq!(rt; outer.depth(), 3);
+    // CPY +<+ CPY -> SIG -> HSH
+    let arms = in_sequence(alloc, both, Phrase::Cpy, left)?;
+    assert_eq!(rt; arms.depth(), 0);
+    // (CPY +<+ CPY -> SIG -> HSH) +~+ CPY
+    let wide = in_parallel(alloc, both, arms, Phrase::Cpy)?;
+    assert_eq!(rt; wide.depth(), 1);
+    // CPY +<+ ((CPY +<+ CPY -> SIG -> HSH) +~+ CPY)
+    let last = in_sequence(alloc, both, Phrase::Cpy, wide)?;
+    assert_eq!(rt; last.depth(), 2);
+    // SIG -> (CPY +<+ ((CPY +<+ CPY -> SIG -> HSH) +~+ CPY))
+    let behind = chained(alloc, Phrase::Sig, last)?;
+    assert_eq!(rt; behind.depth(), 3);
+    // (CPY +~+ CPY) -> SIG
+    let branch = in_parallel(alloc, both, Phrase::Cpy, Phrase::Cpy)?;
+    let signed = chained(alloc, branch, Phrase::Sig)?;
+    assert_eq!(rt; signed.depth(), 1);
+    Ok(())
+}
+
+#[test]
+fn a_copy_is_equal_in_every_form(rt: HostRuntime) -> Result<(), Fail> {
+    let alloc = rt.alloc();
+    let mut files = measurement(&rt, "files");
+    assert!(rt; files.args.push(Arg::Word(name(&rt, "etc"))).is_ok());
+    assert!(rt; files.args.push(Arg::Number(7)).is_ok());
+    let watched = Phrase::Kim(name(&rt, "ks"), measurement(&rt, "kernel"));
+    let measured = chained(alloc, Phrase::Usm(files), watched)?;
+    let hashed = chained(alloc, measured, Phrase::Hsh)?;
+    let there = asked(alloc, name(&rt, "us"), hashed)?;
+    let to_left = Split {
+        left: true,
+        right: false,
+    };
+    let to_right = Split {
+        left: false,
+        right: true,
+    };
+    let first = in_sequence(alloc, to_left, there, Phrase::Cpy)?;
+    let second = chained(alloc, Phrase::Sig, Phrase::Cpy)?;
+    let all = in_parallel(alloc, to_right, first, second)?;
+    let copy = all.try_copy(alloc)?;
+    let found = format!(in alloc; "{copy:?}")?;
+    let wanted = format!(in alloc; "{all:?}")?;
+    assert_eq!(rt; found.as_str(), wanted.as_str());
+    Ok(())
+}
+
+// `CPY -> SIG -> SIG ..` with so many seals, in so many requests.
+fn enclosed(
+    alloc: Global,
+    place: Place,
+    seals: u32,
+    requests: u32,
+) -> Result<Phrase, AllocFailed<Phrase>>
+    ensures { IfOk result (λ phrase. event_count (term phrase) ≡ 1 + seals + 2 * requests) }
+{
+    let mut phrase = Phrase::Cpy;
+    for sealed in 0..seals {
+        phrase = chained(alloc, phrase, Phrase::Sig)?;
+    }
+    for open in 0..requests {
+        phrase = asked(alloc, place, phrase)?;
+    }
+    Ok(phrase)
+}
+
+fn expect_walked(rt: &impl Abort, alloc: Global, seals: u32, requests: u32) -> Result<(), Fail>
+    requires { 1 + seals + 2 * requests < 2 ^ 32 }
+{
+    let phrase = enclosed(alloc, name(rt, "q"), seals, requests)?;
+    let copy = phrase.try_copy(alloc)?;
+    drop(phrase);
+    assert_eq!(rt; copy.depth(), requests);
+    assert_eq!(rt; copy.events(), 1 + seals + 2 * requests);
+    Ok(())
+}
+
+// The longest chain, and the deepest nesting of brackets with the longest chain that goes with it.
+#[test]
+fn the_longest_and_the_deepest_phrases_are_walked(rt: HostRuntime) -> Result<(), Fail> {
+    expect_walked(&rt, rt.alloc(), EVENTS - 1, 0)?;
+    expect_walked(&rt, rt.alloc(), EVENTS - 1 - 2 * BRACKETS, BRACKETS)
 }

@@ -1,5 +1,5 @@
 -- The first event over and the greatest weight of a chain and of a branch are found part by part.
-use Rattle.std.proofs.Common.{◌≡◌, ◌+◌, ℕ, IfOk, max, subst, ap, ◌∙◌, inl, inr, arith}
+use Rattle.std.proofs.Common.{◌≡◌, ℕ, IfOk, max, subst, ap, ◌∙◌, inl, inr, arith}
 use Rattle.phrase_tree.specs.Term.{term, seq}
 use Rattle.evidence_types.specs.Measure.{greatest, counts_from, count_after, of_arm, of_pair}
 use Rattle.evidence_types.proofs.MeasureLemmas.{chain-over-left, chain-over-right, greatest-chain, branch-over-left, branch-over-right, branch-over-join, greatest-branch, joined}

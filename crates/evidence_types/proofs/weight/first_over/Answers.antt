@@ -1,5 +1,5 @@
 -- The answer is the lesser of the events that are over by each measure.
-use Rattle.std.proofs.Common.{◌≡◌, ◌∙◌, Some, None, ap, sym}
+use Rattle.std.proofs.Common.{◌≡◌, ◌∙◌, ap, sym}
 use Rattle.phrase_tree.specs.Term.{term}
 use Rattle.evidence_types.specs.declared.measure.Measure.TheVariants.{Weight}
 use Rattle.evidence_types.specs.Measure.{lesser, over_by, oversize_at}
