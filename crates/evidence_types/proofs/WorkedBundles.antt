@@ -2,6 +2,7 @@
 use Rattle.std.proofs.Common.{◌≡◌, ℕ, List, [], ◌∷◌, ◌++◌, replicate, refl}
 use Rattle.evidence_types.specs.Evidence.{empty, nonce, usm, kim, seal, hash, seq_pair, par_pair}
 use Rattle.evidence_types.specs.Bytes.{bundle, encoding, nesting}
+use Rattle.evidence_types.specs.Marked.{marked_bundle, marked_encoding}
 use Rattle.evidence_types.specs.Answers.{answer_at, answered}
 
 abbrev first_nonce : List ℕ
@@ -40,3 +41,11 @@ answer_of_an_event = refl
 
 events_with_an_answer : answered ((0, 170 ∷ []) ∷ (7, 17 ∷ []) ∷ []) ≡ 0 ∷ 7 ∷ []
 events_with_an_answer = refl
+
+-- a measurement that carries the mark 0, as a bundle of version 2
+measured_with_a_mark : marked_bundle (usm 0 (170 ∷ 187 ∷ []) (nonce first_nonce)) (0 ∷ []) ≡ 67 ∷ 80 ∷ 76 ∷ 66 ∷ 2 ∷ 0 ∷ 0 ∷ 0 ∷ 27 ∷ 2 ∷ 0 ∷ 0 ∷ 0 ∷ 0 ∷ 0 ∷ 0 ∷ 2 ∷ 170 ∷ 187 ∷ 1 ∷ 0 ∷ 1 ∷ 2 ∷ 3 ∷ 4 ∷ 5 ∷ 6 ∷ 7 ∷ 8 ∷ 9 ∷ 10 ∷ 11 ∷ 12 ∷ 13 ∷ 14 ∷ 15 ∷ []
+measured_with_a_mark = refl
+
+-- marks are taken from the left part before the right one
+marks_from_the_left : marked_encoding (seq_pair (usm 1 (17 ∷ []) (kim 2 [] empty)) (seal 4 digest (usm 3 [] empty))) (9 ∷ 8 ∷ 7 ∷ []) ≡ 6 ∷ 2 ∷ 0 ∷ 0 ∷ 0 ∷ 1 ∷ 9 ∷ 0 ∷ 1 ∷ 17 ∷ 3 ∷ 0 ∷ 0 ∷ 0 ∷ 2 ∷ 8 ∷ 0 ∷ 0 ∷ 0 ∷ 4 ∷ 0 ∷ 0 ∷ 0 ∷ 4 ∷ (digest ++ (2 ∷ 0 ∷ 0 ∷ 0 ∷ 3 ∷ 7 ∷ 0 ∷ 0 ∷ 0 ∷ []))
+marks_from_the_left = refl

@@ -2,6 +2,10 @@ pub mod Answer
 pub mod Answers
 pub mod Evidence
 pub mod Bytes
+pub mod Marked
+pub mod WellFormed
+pub mod Bundle
+pub mod Heads
 pub mod Amount
 pub mod Shape
 pub mod Measure

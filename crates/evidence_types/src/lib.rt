@@ -9,6 +9,8 @@
 
 mod answer;
 mod answers;
+mod head;
+mod head_laws;
 mod measure;
 mod shape;
 #[cfg(test)]
@@ -22,7 +24,11 @@ mod weight;
 
 pub use answer::{ANSWER_BYTES, Answer};
 pub use answers::Answers;
-pub use measure::{Measure, VALUE_BYTES, VALUE_NESTING};
+pub use head::{
+    EMPTY_TAG, HASH_TAG, Head, HeadPrefix, KIM_TAG, NONCE_TAG, PAR_TAG, SEAL_TAG, SEQ_TAG, USM_TAG,
+};
+pub use head_laws::heads_make_the_bytes;
+pub use measure::{MARKED_BYTES, Measure, VALUE_BYTES, VALUE_NESTING};
 pub use shape::Shape;
 pub use shaping::shape_of;
 pub use text::shape_text;

@@ -8,6 +8,9 @@ pub const VALUE_BYTES: u32 = 262_144;
 /// The greatest nest that evidence may have at an event, and the greatest nesting of a value.
 pub const VALUE_NESTING: u32 = 1_025;
 
+/// The greatest length in bytes of a value whose measurements carry marks.
+pub const MARKED_BYTES: u32 = 262_398;
+
 /// What is counted of evidence at each event, and limited.
 #[derive(Clone, Copy, Debug, PartialEq, Eq)]
 pub enum Measure {

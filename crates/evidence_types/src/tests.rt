@@ -1,4 +1,6 @@
-use crate::{Answer, Answers, VALUE_NESTING, Value};
+ghost use Rattle.evidence_types.specs.Heads.{IsHead, head_of};
+
+use crate::{Answer, Answers, Head, VALUE_NESTING, Value};
 use std::test::Fail;
 
 #[test]
@@ -55,5 +57,45 @@ fn the_deepest_values_are_let_go_of(rt: HostRuntime) -> Result<(), Fail> {
         right = Value::ParPair(Box::new(alloc, Value::Empty)?, Box::new(alloc, right)?);
     }
     assert!(rt; matches!(&sealed, Value::Seal(1024, _, _)));
+    Ok(())
+}
+
+/// Whether the bytes of a head are these, with its longest field apart.
+fn is_spelled<'a, 'b, 'c>(head: Head<'a>, before: &'b [u8], field: &'c [u8]) -> bool
+    requires { IsHead (head_of head) }
+{
+    let (prefix, tail) = head.bytes();
+    prefix.as_slice() == before && tail == field
+}
+
+#[test]
+fn a_head_has_its_tag_and_its_fields(rt: HostRuntime) -> Result<(), Fail> {
+    assert!(rt; is_spelled(Head::Empty, &[0], &[]));
+    assert!(rt; is_spelled(Head::Nonce(&[5; 16]), &[1], &[5; 16]));
+    assert!(rt;
+        is_spelled(
+            Head::Usm(0, None, &[17, 18]),
+            &[2, 0, 0, 0, 0, 0, 2],
+            &[17, 18]
+        )
+    );
+    assert!(rt;
+        is_spelled(
+            Head::Usm(0, Some(0), &[17]),
+            &[2, 0, 0, 0, 0, 0, 0, 1],
+            &[17]
+        )
+    );
+    assert!(rt;
+        is_spelled(
+            Head::Kim(258, Some(255), &[]),
+            &[3, 0, 0, 1, 2, 255, 0, 0],
+            &[]
+        )
+    );
+    assert!(rt; is_spelled(Head::Seal(1, &[8; 32]), &[4, 0, 0, 0, 1], &[8; 32]));
+    assert!(rt; is_spelled(Head::Hash(4, &[9; 32]), &[5, 0, 0, 0, 4], &[9; 32]));
+    assert!(rt; is_spelled(Head::SeqPair, &[6], &[]));
+    assert!(rt; is_spelled(Head::ParPair, &[7], &[]));
     Ok(())
 }
