@@ -24,3 +24,4 @@ pub mod NextEvent
 pub mod RisingLaws
 pub mod RisingRecords
 pub mod LegalSchedules
+pub mod LightLaws

@@ -9,3 +9,4 @@ pub mod MoveOrder
 pub mod Schedule
 pub mod Played
 pub mod WrongHistories
+pub mod Light

@@ -79,10 +79,10 @@ with_entry walked entry None = walked
 with_entry walked entry (Some standing) = record walked { history = walked.history ++ entry ∷ []; standing = standing }
 
 -- the candidate of this index
-abbrev pub nth_entry : List Entry → ℕ → Option Entry
-nth_entry [] k = None
-nth_entry (entry ∷ rest) zero = Some entry
-nth_entry (entry ∷ rest) (suc k) = nth_entry rest k
+abbrev pub nth_candidate : List Entry → ℕ → Option Entry
+nth_candidate [] k = None
+nth_candidate (entry ∷ rest) zero = Some entry
+nth_candidate (entry ∷ rest) (suc k) = nth_candidate rest k
 
 -- a session after a candidate, where there is one
 abbrev pub with_choice : List (List ℕ × List ℕ) → Walked → Option Entry → Walked
@@ -98,7 +98,7 @@ pub record Chosen : Type 0 where
 abbrev pub chosen : List (List ℕ × List ℕ) → Walked → List Entry → Option ℕ → Chosen
 chosen keys walked entries from =
     let d = draw (length entries) from in
-    record { walked = with_choice keys walked (nth_entry entries d.drawn); from = d.from }
+    record { walked = with_choice keys walked (nth_candidate entries d.drawn); from = d.from }
 
 -- how the sessions of a job go on: those passed over, the one chosen, those behind it
 pub record Round : Type 0 where

@@ -4,6 +4,7 @@
 #![tactic(auto)]
 
 mod laws;
+mod light;
 #[cfg(test)]
 mod tests;
 mod wrong;
@@ -12,4 +13,5 @@ pub use laws::{
     choice_law, growth_law, legal_schedule_law, length_law, listing_law, owner_law, progress_law,
     record_law, result_law, rising_law, rising_record_law, schedule_law, trace_law,
 };
+pub use light::light_law;
 pub use wrong::wrong_histories;
