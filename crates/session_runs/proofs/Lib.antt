@@ -25,3 +25,7 @@ pub mod RisingLaws
 pub mod RisingRecords
 pub mod LegalSchedules
 pub mod LightLaws
+pub mod BareLaws
+pub mod SameSchedules
+pub mod OneResult
+pub mod RoundLaws

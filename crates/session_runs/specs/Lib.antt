@@ -10,3 +10,5 @@ pub mod Schedule
 pub mod Played
 pub mod WrongHistories
 pub mod Light
+pub mod Results
+pub mod ByFaults

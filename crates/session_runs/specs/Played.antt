@@ -37,6 +37,11 @@ abbrev pub AreWalked : (ℕ → Result (List ℕ) MeasureError) → List Entry �
 AreWalked results [] = Unit {0}
 AreWalked results (entry ∷ entries) = IsWalked results entry × AreWalked results entries
 
+-- that of each of these sessions; `number` is that of the first
+abbrev pub AllWalked : (ℕ → ℕ → Result (List ℕ) MeasureError) → ℕ → List Walked → Type 0
+AllWalked results number [] = Unit {0}
+AllWalked results number (walked ∷ all) = AreWalked (results number) walked.history × AllWalked results (number + 1) all
+
 -- this session, with a history that it can have and that has these results, and as it stands after it
 pub record IsPlayed (keys : List (List ℕ × List ℕ)) (results : ℕ → Result (List ℕ) MeasureError) (session : Session) (walked : Walked) : Type 0 where
   pub same : walked.session ≡ session

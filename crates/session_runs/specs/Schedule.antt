@@ -145,8 +145,15 @@ abbrev pub first_from : ℕ → Option ℕ
 first_from zero = None
 first_from (suc n) = Some n
 
+-- the sessions of a job before the first round, and after so many rounds
+abbrev pub begun : List Session → ℕ → Round
+begun sessions number = record { all = all_opened sessions; from = first_from number }
+
+abbrev pub after_rounds : List (List ℕ) → List (List ℕ × List ℕ) → (ℕ → ℕ → Result (List ℕ) MeasureError) → List Session → ℕ → ℕ → Round
+after_rounds places keys results sessions number count = rounds places keys results count (begun sessions number)
+
 -- the sessions of a job as the schedule of a number plays them, where the results of the bench are these,
 -- by the number of the session and of the event
 abbrev pub scheduled : List (List ℕ) → List (List ℕ × List ℕ) → (ℕ → ℕ → Result (List ℕ) MeasureError) → List Session → ℕ → List Walked
 scheduled places keys results sessions number =
-    (rounds places keys results (entries_at_most sessions) (record { all = all_opened sessions; from = first_from number })).all
+    (after_rounds places keys results sessions number (entries_at_most sessions)).all

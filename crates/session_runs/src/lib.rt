@@ -5,6 +5,7 @@
 
 mod laws;
 mod light;
+mod schedules;
 #[cfg(test)]
 mod tests;
 mod wrong;
@@ -14,4 +15,5 @@ pub use laws::{
     record_law, result_law, rising_law, rising_record_law, schedule_law, trace_law,
 };
 pub use light::light_law;
+pub use schedules::{fault_law, result_count_law, rounds_law};
 pub use wrong::wrong_histories;
