@@ -29,3 +29,4 @@ pub mod BareLaws
 pub mod SameSchedules
 pub mod OneResult
 pub mod RoundLaws
+pub mod TouchLaws

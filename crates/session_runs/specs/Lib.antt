@@ -12,3 +12,4 @@ pub mod WrongHistories
 pub mod Light
 pub mod Results
 pub mod ByFaults
+pub mod Touches

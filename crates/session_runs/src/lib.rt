@@ -8,6 +8,7 @@ mod light;
 mod schedules;
 #[cfg(test)]
 mod tests;
+mod touches;
 mod wrong;
 
 pub use laws::{
@@ -16,4 +17,5 @@ pub use laws::{
 };
 pub use light::light_law;
 pub use schedules::{fault_law, result_count_law, rounds_law};
+pub use touches::touch_law;
 pub use wrong::wrong_histories;
