@@ -15,3 +15,4 @@ pub mod Readiness
 pub mod Agenda
 pub mod Freshness
 pub mod LightBlocks
+pub mod TouchBlocks
