@@ -14,3 +14,5 @@ pub mod Entries
 pub mod Readiness
 pub mod Agenda
 pub mod Freshness
+pub mod LightBlocks
+pub mod TouchBlocks

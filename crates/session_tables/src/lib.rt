@@ -4,7 +4,11 @@
 #![tactic(auto)]
 
 mod laws;
+mod light;
 #[cfg(test)]
 mod tests;
+mod touches;
 
 pub use laws::{agenda_law, entry_law, ready_law, start_law, tables_law};
+pub use light::fits_law;
+pub use touches::touches_law;
