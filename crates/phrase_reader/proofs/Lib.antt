@@ -1,5 +1,6 @@
 pub mod Words
 pub mod Frames
+pub mod Stages
 pub mod Drives
 pub mod Meaning
 pub mod Closing

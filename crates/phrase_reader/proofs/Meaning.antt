@@ -11,7 +11,7 @@ use Rattle.phrase_reader.specs.declared.token.Token.TheVariants as tokens
 use Rattle.phrase_reader.specs.declared.state.Bracket.{Bracket}
 use Rattle.phrase_reader.specs.declared.state.Bracket.TheVariants.{Round, Square}
 use Rattle.phrase_reader.specs.Grammar.{bare, measurement, measurement_tokens, name_token, IsBranch, IsChain, IsUnit, alone, branches, single, links, leaves, measures, asks, brackets}
-use Rattle.phrase_reader.specs.Machine.{Arm, Parts, Frame, Stage, State, unit_next, place_next, square_next, target_next, service_next, measured, ended, fresh, start, chain_with, branch_with, whole_with, unit_of, finished_with, bracketed, begun_from, inside, round_opened, square_opened, left_behind, round_left, square_left, round_closed, square_closed, linked, armed, branched, with_name, named, valued, with_stage, step, run}
+use Rattle.phrase_reader.specs.Machine.{Arm, Parts, Frame, Stage, State, unit_next, place_next, square_next, target_next, service_next, measured, ended, fresh, start, chain_with, branch_with, whole_with, unit_of, finished_with, bracketed, begun_from, inside, round_opened, square_opened, left_behind, round_left, square_left, round_closed, square_closed, linked, armed, branched, with_name, named, with_arg, valued, with_stage, step, run}
 use Rattle.phrase_reader.proofs.Drives.{some_same, state_at, parts_with}
 
 abbrev pub LinkTokens : Option Term → List Token → Type 0
@@ -151,9 +151,6 @@ named_read (ended unit) new name h last read = cc
 named_value_read : (stage new : Stage) (value : Arg) → named stage value ≡ Some new → (last : List Token) → StageTokens stage last → StageTokens new (last ++ tokens.Value value ∷ [])
 named_value_read stage new (Word name) h last read = named_read stage new name h last read
 named_value_read stage new (Number number) h last read = cc
-
-abbrev with_arg : Asp → Arg → Asp
-with_arg asp arg = record { name = asp.name; args = asp.args ++ arg ∷ [] }
 
 more_read : (target : Option (List ℕ)) (asp : Asp) (value : Arg) (last : List Token) → last ≡ measurement_tokens target asp → last ++ tokens.Value value ∷ [] ≡ measurement_tokens target (with_arg asp value)
 more_read None asp value last read =

@@ -10,6 +10,7 @@ use Rattle.phrase_reader.specs.declared.refusal.Kind.TheVariants.{Expected, TooL
 use Rattle.phrase_reader.specs.declared.refusal.ReadError.{ReadError}
 use Rattle.phrase_reader.specs.declared.refusal.ReadError.TheVariants.{Refused, NoMemory}
 use Rattle.phrase_reader.specs.declared.token.Token.{Token}
+use Rattle.phrase_reader.specs.declared.reader.Reader.{Reader}
 use Rattle.phrase_reader.specs.Tokens.{Found, token_at, refused_at, ends_at, found, tokens_of}
 use Rattle.phrase_reader.specs.Grammar.{IsBranch, IsWhole}
 use Rattle.phrase_reader.specs.Refusal.{token_events, events_in, opened_in, closed_in, Breaks, BreaksNone, Refuses, IsRefusal, IsRead}
@@ -178,14 +179,14 @@ progress_ends text offset state events place (Err (Refused other kind)) p f h =
 progress_ends text offset state events place (Err NoMemory) p f h = tt
 
 -- the answer to a token that the reader did not take
-pub progress_rejects : (text : List ℕ) (offset : ℕ) (state : State) (events : ℕ) (token : Token) (place : ℕ) (rest : List Found) (error : ReadError) → Progress text offset state events → found offset 0 (drop offset text) ≡ token_at place token ∷ rest → Accepts state events token place (Err error) → Reads (Err error) (found 0 0 text)
-progress_rejects text offset state events token place rest (Refused other kind) p f h =
+pub progress_rejects : (A : Type 0) (text : List ℕ) (offset : ℕ) (state : State) (events : ℕ) (token : Token) (place : ℕ) (rest : List Found) (next : Reader) (error : ReadError) → Progress text offset state events → found offset 0 (drop offset text) ≡ token_at place token ∷ rest → Accepts {A = A} state events token place next (Err error) → Reads (Err error) (found 0 0 text)
+progress_rejects A text offset state events token place rest next (Refused other kind) p f h =
     let u = progress_stops text offset state events token place rest kind p f h.1 in
     λ q k. (
       λ g. let e = (u q k).0 g in (h.0 ∙ e.0, e.1),
       λ e. (u q k).1 (sym h.0 ∙ e.0, e.1),
     )
-progress_rejects text offset state events token place rest NoMemory p f h = tt
+progress_rejects A text offset state events token place rest next NoMemory p f h = tt
 
 pub too_long_found : (text : List ℕ) → TEXT_BYTES < length text → (phrase : Term) → (⊥ → IsRead text phrase) × (IsRead text phrase → ⊥)
 too_long_found text long phrase = (λ b. absurd b, λ r. r.accepted TEXT_BYTES TooLong (inl (long, refl, refl)))

@@ -1,11 +1,12 @@
 -- How a reader goes from token to token. Nothing public names this: it is what the reader's own functions
 -- promise one another, and the laws in proofs/ lead from it to the grammar.
-use Rattle.std.specs.Prelude.{◌≡◌, ◌+◌, ◌++◌, ℕ, Bool, true, false, List, [], ◌∷◌, Option, Some, None, Result, Ok, Err, is_some, length, nat_le, nat_lt, option_map, option_and_then, if◌then◌else◌}
+use Rattle.std.specs.Prelude.{◌≡◌, ◌+◌, ◌++◌, ℕ, Bool, true, false, List, [], ◌∷◌, Option, Some, None, Result, Ok, Err, is_some, length, nat_le, nat_lt, option_map, option_and_then, if◌then◌else◌, Box}
 use Rattle.phrase_tree.specs.declared.phrase.TheConstants.{EVENTS, BRACKETS}
 use Rattle.phrase_tree.specs.declared.measurement.Arg.{Arg}
 use Rattle.phrase_tree.specs.declared.measurement.Arg.TheVariants.{Word, Number}
 use Rattle.phrase_tree.specs.declared.measurement.Asp.{Asp}
-use Rattle.phrase_tree.specs.Term.{Term, at, chain, term}
+use Rattle.phrase_tree.specs.declared.phrase.Phrase.{Phrase}
+use Rattle.phrase_tree.specs.Term.{Term, leaf, usm, kim, at, chain, term}
 use Rattle.phrase_reader.specs.declared.refusal.Kind.{Kind}
 use Rattle.phrase_reader.specs.declared.refusal.Kind.TheVariants as kinds
 use Rattle.phrase_reader.specs.declared.token.Op.{Op}
@@ -159,10 +160,12 @@ abbrev pub named : Stage → Arg → Option Stage
 named stage (Word name) = with_name stage name
 named stage (Number number) = None
 
+abbrev pub with_arg : Asp → Arg → Asp
+with_arg asp value = record { name = asp.name; args = asp.args ++ value ∷ [] }
+
 -- a name or a decimal
 abbrev pub valued : Stage → Arg → Option Stage
-valued (measured target asp) value =
-    Some (measured target (record { name = asp.name; args = asp.args ++ value ∷ [] }))
+valued (measured target asp) value = Some (measured target (with_arg asp value))
 valued stage value = named stage value
 
 abbrev pub with_stage : State → Stage → State
@@ -186,6 +189,9 @@ step state (tokens.Value value) = option_map (with_stage state) (valued state.st
 abbrev pub run : State → List Token → Option State
 run state [] = Some state
 run state (token ∷ rest) = option_and_then (λ next. run next rest) (step state token)
+
+abbrev pub full : Asp → Option Kind
+full asp = if nat_le 4 (length asp.args) then Some kinds.TooManyArgs else None
 
 abbrev pub args_full : Stage → Bool
 args_full (measured target asp) = nat_le 4 (length asp.args)
@@ -222,11 +228,20 @@ verdict state events token =
     verdict_on (step state token) (unfit (finished state)) (limited (limit state token) (events + token_events token))
 
 -- what the program's values stand for
+abbrev pub boxed_term : {Z : Type 0} → Box Phrase Z → Term
+boxed_term phrase = term phrase.value
+
+-- a measurement that may have more arguments; any other phrase takes none
+abbrev pub measured_of : Term → Stage
+measured_of (leaf (usm asp)) = measured None asp
+measured_of (leaf (kim target asp)) = measured (Some target) asp
+measured_of phrase = ended phrase
+
 abbrev pub arm_of : coded_arm.Arm → Arm
-arm_of arm = record { op = arm.op; left = term arm.left }
+arm_of arm = record { op = arm.op; left = boxed_term arm.left }
 
 abbrev pub parts_of : coded_parts.Parts → Parts
-parts_of parts = record { arm = option_map arm_of parts.arm; link = option_map term parts.link }
+parts_of parts = record { arm = option_map arm_of parts.arm; link = option_map boxed_term parts.link }
 
 abbrev pub frame_of : coded_frame.Frame → Frame
 frame_of frame = record { outer = parts_of frame.outer; bracket = frame.bracket }
@@ -242,19 +257,20 @@ stage_of stages.Place = place_next
 stage_of (stages.Square place) = square_next place
 stage_of stages.Target = target_next
 stage_of (stages.Service target) = service_next target
-stage_of (stages.Measured target asp) = measured target asp
-stage_of (stages.Ended unit) = ended (term unit)
+stage_of (stages.Measured unit) = measured_of (boxed_term unit)
+stage_of (stages.Ended unit) = ended (boxed_term unit)
 
 abbrev pub state_of : coded.State → State
 state_of state =
     record { inner = parts_of state.inner; stack = frames_on [] state.frames.items; stage = stage_of state.stage }
 
--- a call gave the state behind a token, unless it doesn't fit, or breaks a limit
-abbrev pub Gives : Result coded.State Stop → Option State → Option Kind → Type 0
-Gives (Ok next) after limits = (after ≡ Some (state_of next)) × (limits ≡ None)
-Gives (Err Unfit) after limits = after ≡ None
-Gives (Err (Limit kind)) after limits = (is_some after ≡ true) × (limits ≡ Some kind)
-Gives (Err Memory) after limits = Unit {0}
+-- a call took what it was called on to what stands behind a token, unless the token doesn't fit, or breaks
+-- a limit; then nothing is said of what it was called on
+abbrev pub Steps : {A S : Type 0} → Result A Stop → S → Option S → Option Kind → Type 0
+Steps (Ok done) next after limits = (after ≡ Some next) × (limits ≡ None)
+Steps (Err Unfit) next after limits = after ≡ None
+Steps (Err (Limit kind)) next after limits = (is_some after ≡ true) × (limits ≡ Some kind)
+Steps (Err Memory) next after limits = Unit {0}
 
 -- the same for a call that gives a stage
 abbrev pub GivesStage : Result coded_stage.Stage Stop → Option Stage → Option Kind → Type 0

@@ -36,21 +36,21 @@ Finds text offset (pieces.Refused kind place) =
 Finds text offset (pieces.End place) =
     (found offset 0 (drop offset text) ≡ ends_at place ∷ []) × (place ≤ length text)
 
--- the reader took a token, or answered with the rule that it breaks
-abbrev pub Accepts : State → ℕ → Token → ℕ → Result Reader ReadError → Type 0
-Accepts state events token place (Ok next) =
+-- the reader took a token and is what it is next, or answered with the rule that the token breaks
+abbrev pub Accepts : {A : Type 0} → State → ℕ → Token → ℕ → Reader → Result A ReadError → Type 0
+Accepts state events token place next (Ok done) =
     (step state token ≡ Some (state_of next.state)) × (verdict state events token ≡ None) × (next.events ≡ events + token_events token) × (next.events ≤ EVENTS) × (next.unfit ≡ unfit (finished (state_of next.state)))
-Accepts state events token place (Err (Refused offset kind)) =
+Accepts state events token place next (Err (Refused offset kind)) =
     (offset ≡ place) × (verdict state events token ≡ Some kind)
-Accepts state events token place (Err NoMemory) = Unit {0}
+Accepts state events token place next (Err NoMemory) = Unit {0}
 
 -- the same for a token that breaks no other rule than that on the count of events
-abbrev pub AcceptsCount : State → ℕ → ℕ → Result Reader ReadError → Type 0
-AcceptsCount state events place (Ok next) =
+abbrev pub AcceptsCount : {A : Type 0} → State → ℕ → ℕ → Reader → Result A ReadError → Type 0
+AcceptsCount state events place next (Ok done) =
     (state_of next.state ≡ state) × (next.events ≡ events) × (nat_lt EVENTS events ≡ false) × (next.unfit ≡ unfit (finished (state_of next.state)))
-AcceptsCount state events place (Err (Refused offset kind)) =
+AcceptsCount state events place next (Err (Refused offset kind)) =
     (offset ≡ place) × (kind ≡ kinds.TooManyEvents) × (nat_lt EVENTS events ≡ true)
-AcceptsCount state events place (Err NoMemory) = Unit {0}
+AcceptsCount state events place next (Err NoMemory) = Unit {0}
 
 -- the reader's answer at the end
 abbrev pub Finishes : State → ℕ → Result Phrase ReadError → Type 0

@@ -1,6 +1,6 @@
 -- How tokens make a text: each is spelled by some bytes, blanks may stand before each and at the end, and a
 -- word is as long as it can be.
-use Rattle.std.specs.Prelude.{◌≡◌, ◌≤◌, ◌++◌, ℕ, Bool, true, false, List, [], ◌∷◌, IsTrue, codes}
+use Rattle.std.specs.Prelude.{◌≡◌, ◌≤◌, ◌++◌, ℕ, true, false, List, [], ◌∷◌, IsTrue, codes}
 use Rattle.std.specs.List.{list_all}
 use Rattle.phrase_tree.specs.Name.{IsName}
 use Rattle.phrase_tree.specs.declared.measurement.Arg.{Arg}

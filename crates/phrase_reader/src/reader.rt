@@ -35,23 +35,6 @@ fn unfit(state: &State) -> Kind
     Kind::Expected
 }
 
-fn counted(state: State, events: u32, place: u32) -> Result<Reader, ReadError>
-    ensures { AcceptsCount (state_of state) events place result }
-{
-    if events > EVENTS {
-        return Err(ReadError::Refused {
-            at: place,
-            kind: Kind::TooManyEvents,
-        });
-    }
-    let unfit = unfit(&state);
-    Ok(Reader {
-        state,
-        events,
-        unfit,
-    })
-}
-
 fn stopped(stop: Stop, unfit: Kind, place: u32) -> ReadError
     ensures { result ≡ stopped stop unfit place }
 {
@@ -66,19 +49,31 @@ fn stopped(stop: Stop, unfit: Kind, place: u32) -> ReadError
 }
 
 impl Reader {
-    fn accept(self, alloc: Global, token: Token, place: u32) -> Result<Reader, ReadError>
-        requires few { self.events ≤ EVENTS }
-        requires ready { self.unfit ≡ unfit (finished (state_of self.state)) }
-        ensures { Accepts (state_of self.state) self.events token place result }
+    /// Takes a count of events that is within the limit.
+    fn count(&mut self, events: u32, place: u32) -> Result<(), ReadError>
+        ensures { AcceptsCount (state_of self.old.state) events place self.new result }
     {
-        let Reader {
-            state,
-            events,
-            unfit,
-        } = self;
-        let events = events + token.events();
-        match state.push(alloc, token) {
-            Ok(after) => counted(after, events, place),
+        if events > EVENTS {
+            return Err(ReadError::Refused {
+                at: place,
+                kind: Kind::TooManyEvents,
+            });
+        }
+        self.unfit = unfit(&self.state);
+        self.events = events;
+        Ok(())
+    }
+
+    /// Takes a token. After an error the reader is not used again.
+    fn accept(&mut self, alloc: Global, token: Token, place: u32) -> Result<(), ReadError>
+        requires few { self.old.events ≤ EVENTS }
+        requires ready { self.old.unfit ≡ unfit (finished (state_of self.old.state)) }
+        ensures { Accepts (state_of self.old.state) self.old.events token place self.new result }
+    {
+        let events = self.events + token.events();
+        let unfit = self.unfit;
+        match self.state.push(alloc, token) {
+            Ok(()) => self.count(events, place),
             Err(stop) => Err(stopped(stop, unfit, place)),
         }
     }
@@ -113,10 +108,9 @@ fn read_bytes(alloc: Global, text: &[u8]) -> Result<Phrase, ReadError>
         match find(text, offset) {
             Piece::Token(token, start, next) => {
                 match reader.accept(alloc, token, start as u32) {
-                    Ok(after) => reader = after,
+                    Ok(()) => offset = next,
                     Err(error) => return Err(error),
                 }
-                offset = next;
             }
             Piece::Refused(kind, place) => {
                 return Err(ReadError::Refused {

@@ -1,4 +1,4 @@
-use Rattle.std.proofs.Common.{List, ℕ, subst}
+use Rattle.std.proofs.Common.{List, subst}
 use Rattle.phrase_reader.specs.declared.token.Token.{Token}
 use Rattle.phrase_reader.specs.Spelling.{Makes}
 use Rattle.phrase_reader.proofs.Spellings.{tokens_make, made_tokens, read_spelled}

@@ -15,8 +15,8 @@ tokens-init c = record {
 
 pub returns-in-Err : goal.returns-in-Err
 returns-in-Err c =
-    progress_rejects c.args.text.now c.tokens.offset (state_of c.tokens.reader.state) c.tokens.reader.events
-    c.in-Token.token c.in-Token.start (found c.in-Token.next 0 (drop c.in-Token.next c.args.text.now)) c.in-Err.error
+    progress_rejects (Unit {0}) c.args.text.now c.tokens.offset (state_of c.tokens.reader.state) c.tokens.reader.events
+    c.in-Token.token c.in-Token.start (found c.in-Token.next 0 (drop c.in-Token.next c.args.text.now)) c.accept.new.self c.in-Err.error
     c.tokens.invariant.progress c.in-Token.ensures.0 c.in-Err.ensures
 
 pub tokens-preserved : goal.tokens-preserved
@@ -26,7 +26,7 @@ tokens-preserved c = record {
   ready = c.in-Ok.ensures.4;
   progress =
       progress_next c.args.text.now c.tokens.offset (state_of c.tokens.reader.state) c.tokens.reader.events
-      c.in-Token.token c.in-Token.start c.in-Token.next (state_of c.in-Ok.after.state) c.in-Ok.after.events
+      c.in-Token.token c.in-Token.start c.in-Token.next (state_of c.accept.new.self.state) c.accept.new.self.events
       c.tokens.invariant.progress c.in-Token.ensures.0 c.in-Ok.ensures.0 c.in-Ok.ensures.1 c.in-Ok.ensures.2 c.in-Ok.ensures.3;
 }
 
