@@ -1,8 +1,8 @@
 -- The direct predecessors of an event determine its needs.
-use Rattle.std.proofs.Common.{◌≡◌, ℕ, ◌<◌, ◌⊎◌, ◌↔◌, ◌∙◌, inl, inr, ⊎_elim, Option, Some, None, refl, sym, ap, arith}
+use Rattle.std.proofs.Common.{◌≡◌, ℕ, ◌<◌, ◌⊎◌, ◌∙◌, inl, inr, Option, Some, None, refl, sym, ap, arith}
 use Rattle.phrase_tree.specs.Term.{Term}
 use Rattle.event_system.specs.declared.direct.Needs.{Needs}
-use Rattle.event_system.specs.Needs.{Names, AreNeeds}
+use Rattle.event_system.specs.Needs.{AreNeeds}
 
 abbrev Among : Option ℕ → Option ℕ → ℕ → Type 0
 Among first second x = (first ≡ Some x) ⊎ (second ≡ Some x)

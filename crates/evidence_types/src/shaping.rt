@@ -1,7 +1,7 @@
 ghost use Rattle.std.specs.Prelude.{◌≡◌, ◌<◌, ◌+◌, ◌^◌, if◌then◌else◌, IfOk};
 ghost use Rattle.phrase_tree.specs.Term.{term};
 ghost use Rattle.phrase_tree.specs.Numbering.{IsSized, event_count};
-ghost use Rattle.evidence_types.specs.Shape.{Form, arm_shape, form, hashed, in_parallel, in_sequence, measured, measured_at, sealed, shape_at, shape_from};
+ghost use Rattle.evidence_types.specs.Shape.{Form, arm_shape, form, hashed, in_parallel, in_sequence, measured, measured_at, nothing, sealed, shape_at, shape_from, the_nonce};
 ghost use Rattle.evidence_types.specs.Measure.{IsLight};
 
 use crate::shape::Shape;
@@ -16,7 +16,7 @@ pub fn shape_of(alloc: Global, phrase: &Phrase, place: Place) -> Result<Shape, N
     requires light { IsLight (term phrase.now) }
     ensures { IfOk result (λ shape. form shape ≡ shape_at (term phrase.now) place) }
 {
-    let before = boxed(alloc, Shape::Nonce)?;
+    let before = nonce(alloc)?;
     let made = shape_from(alloc, phrase, place, 0, before)?;
     Ok(Box::into_inner(made.shape))
 }
@@ -39,6 +39,20 @@ fn boxed(alloc: Global, shape: Shape) -> Result<Box<Shape>, NoMemory>
         Ok(made) => Ok(made),
         Err(_) => Err(NoMemory),
     }
+}
+
+#[inline(never)]
+fn nothing(alloc: Global) -> Result<Box<Shape>, NoMemory>
+    ensures { IfOk result (λ made. form made.value ≡ nothing) }
+{
+    boxed(alloc, Shape::Empty)
+}
+
+#[inline(never)]
+fn nonce(alloc: Global) -> Result<Box<Shape>, NoMemory>
+    ensures { IfOk result (λ made. form made.value ≡ the_nonce) }
+{
+    boxed(alloc, Shape::Nonce)
 }
 
 /// A leaf's shape, and the number after it.
@@ -132,7 +146,7 @@ fn shape_from(
             Ok(leaf(number, shape))
         }
         Phrase::Nul => {
-            let shape = boxed(alloc, Shape::Empty)?;
+            let shape = nothing(alloc)?;
             Ok(leaf(number, shape))
         }
         Phrase::Usm(asp) => {
@@ -210,12 +224,12 @@ fn arms(
     ensures right { IfOk result (λ arms. form arms.1.value ≡ arm_shape split.now.right (form before.value)) }
 {
     if !split.right {
-        let right = boxed(alloc, Shape::Empty)?;
+        let right = nothing(alloc)?;
         let left = arm(alloc, split.left, before)?;
         return Ok((left, right));
     }
     if !split.left {
-        let left = boxed(alloc, Shape::Empty)?;
+        let left = nothing(alloc)?;
         return Ok((left, before));
     }
     let copied = copy_of(alloc, &before)?;
@@ -229,7 +243,7 @@ fn arm(alloc: Global, gets_all: bool, before: Box<Shape>) -> Result<Box<Shape>, 
     if gets_all {
         return Ok(before);
     }
-    boxed(alloc, Shape::Empty)
+    nothing(alloc)
 }
 
 /// A pair of a copy and what came of copying its right part. Where that got no memory the left one is let
@@ -260,8 +274,8 @@ fn copy_of(alloc: Global, shape: &Shape) -> Result<Box<Shape>, NoMemory>
     ensures { IfOk result (λ copy. form copy.value ≡ form shape.now) }
 {
     match shape {
-        Shape::Empty => boxed(alloc, Shape::Empty),
-        Shape::Nonce => boxed(alloc, Shape::Nonce),
+        Shape::Empty => nothing(alloc),
+        Shape::Nonce => nonce(alloc),
         Shape::Usm(event, place, asp, under) => {
             let copied = copy_of(alloc, under)?;
             usm(alloc, *event, *place, asp, copied)
