@@ -1,5 +1,8 @@
 mod WorkedSchedules
 mod WorkedSessions
+mod WorkedLight
+mod WorkedFaults
+mod WorkedTouches
 pub mod Induction
 pub mod EntryLaws
 pub mod CountLaws

@@ -5,6 +5,8 @@
 
 mod laws;
 mod light;
+#[cfg(test)]
+mod schedule_tests;
 mod schedules;
 #[cfg(test)]
 mod tests;
