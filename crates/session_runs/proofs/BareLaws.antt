@@ -1,8 +1,8 @@
 -- Sessions without their evidence: what happens next doesn't rest on it, nor on the bytes of answers or the kinds of
 -- faults.
-use Rattle.std.proofs.Common.{◌≡◌, ℕ, ◌+◌, List, [], ◌∷◌, ◌++◌, refl, sym, ◌∙◌, ap, subst}
+use Rattle.std.proofs.Common.{◌≡◌, ℕ, ◌+◌, List, [], ◌∷◌, ◌++◌, refl, sym, ◌∙◌, ap}
 use Rattle.std.specs.Prelude.{Bool, true, false, not, Option, None, Some, nat_eq, if◌then◌else◌}
-use Rattle.phrase_tree.specs.Term.{Term, Leaf, is_measurement, leaf, at, chain, seq, par}
+use Rattle.phrase_tree.specs.Term.{Term, is_measurement, leaf, at, chain, seq, par}
 use Rattle.phrase_tree.specs.Numbering.{event_count}
 use Rattle.evidence_types.specs.Evidence.{Evidence, empty, seq_pair, par_pair}
 use Rattle.bench_trait.specs.declared.bench.BenchFault.TheVariants.{NoArtefact}
@@ -10,7 +10,7 @@ use Rattle.session_model.specs.Session.{Session}
 use Rattle.session_model.specs.Value.{Makings, part, leaf_value}
 use Rattle.session_runs.specs.Configuration.{Configuration, todo, asked, posted, remote, first, left_arm, right_arm, both_arms, finished, start, measurement, once_finished, followed_by}
 use Rattle.session_runs.specs.Moves.{Step, run as run_step, ask as ask_step, Deed, in_block, answer, delivery, Effect, silent, happens, sends, asks, answers, starts, Moved, on_run, on_ask, on_answer, on_delivery, on_step, only_if, inside, or_else, todo_moves, own_moves, block_moves, inner_moves}
-use Rattle.session_runs.specs.Standing.{Block, root, of, Move, run, ask, deliver, Entry, opened, played, answered, failed, starved, State, is_open, is_done, has_failed, has_starved, Standing, opening, makings, front, without_request, without_ask, is_in_flight, after, made, delivered, played_on, entered, where_open, next}
+use Rattle.session_runs.specs.Standing.{Block, root, of, Move, run, ask, deliver, Entry, opened, played, answered, failed, starved, State, is_open, is_done, has_failed, has_starved, Standing, makings, front, without_request, without_ask, is_in_flight, after, made, delivered, played_on, entered, where_open, next}
 use Rattle.session_runs.specs.MoveOrder.{Ready, ready_to, where_true, ready_in, silent_ones, event_ones, moves_by, deliveries, moves_where, possible_moves}
 use Rattle.session_runs.proofs.Induction.{Made}
 

@@ -1,6 +1,6 @@
 -- The histories of a schedule are legal where its results are those of a bench.
 use Rattle.std.proofs.Common.{◌≡◌, ℕ, ◌+◌, List, [], ◌∷◌, ◌++◌, refl, sym, ◌∙◌, subst}
-use Rattle.std.specs.Prelude.{Bool, true, false, Option, None, Some, Result, nat_eq, if◌then◌else◌}
+use Rattle.std.specs.Prelude.{Option, None, Some, Result, if◌then◌else◌}
 use Rattle.bench_trait.specs.declared.ask.Ask.{Ask}
 use Rattle.bench_trait.specs.declared.bench.BenchFault.{BenchFault}
 use Rattle.bench_trait.specs.declared.bench.MeasureError.{MeasureError}
@@ -12,7 +12,7 @@ use Rattle.session_runs.specs.History.{further, standing_after, IsResult, AreRes
 use Rattle.session_runs.specs.Progress.{IsAwaited}
 use Rattle.session_runs.specs.Schedule.{Walked, scheduled}
 use Rattle.session_runs.specs.Played.{AskOnly, IsWalked, AreWalked, ArePlayed, IsMeasuredAt, AreMeasured, AllMeasured, AreLegal}
-use Rattle.session_runs.proofs.EntryLaws.{some_is, no_standing, where_open_is, if_standing}
+use Rattle.session_runs.proofs.EntryLaws.{no_standing, where_open_is, if_standing}
 use Rattle.session_runs.proofs.HistoryLaws.{after_more}
 use Rattle.session_runs.proofs.ResultLaws.{history_awaits}
 use Rattle.session_runs.proofs.ScheduleLaws.{schedule_ends}

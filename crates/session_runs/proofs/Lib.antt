@@ -1,6 +1,9 @@
 mod WorkedSchedules
 mod WorkedSessions
 mod WorkedRoom
+mod WorkedLight
+mod WorkedFaults
+mod WorkedTouches
 pub mod Induction
 pub mod EntryLaws
 pub mod CountLaws

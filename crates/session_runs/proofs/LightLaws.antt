@@ -2,7 +2,6 @@
 -- the limits of a bundle, and no move raises them.
 use Rattle.std.proofs.Common.{◌≡◌, ◌+◌, ◌≤◌, ℕ, Bool, true, false, List, [], ◌∷◌, length, refl, sym, ◌∙◌, ap, subst, arith}
 use Rattle.std.specs.Prelude.{Option, None, Some}
-use Rattle.phrase_tree.specs.declared.phrase.Split.{Split}
 use Rattle.phrase_tree.specs.Term.{Term, Leaf, cpy, sig, hsh, nul, usm, kim, is_measurement, leaf, at, chain, seq, par}
 use Rattle.phrase_tree.specs.Numbering.{event_count}
 use Rattle.evidence_types.specs.declared.measure.Measure.{Measure}
@@ -10,8 +9,8 @@ use Rattle.evidence_types.specs.declared.measure.Measure.TheVariants.{Weight, Ne
 use Rattle.evidence_types.specs.Amount.{amount}
 use Rattle.evidence_types.specs.Answer.{FitsAnswer}
 use Rattle.evidence_types.specs.Bytes.{FitsBundle}
-use Rattle.evidence_types.specs.Evidence.{Evidence, empty, nonce, seq_pair, par_pair}
-use Rattle.evidence_types.specs.Measure.{of_nonce, of_answer, of_arm, of_pair, leaf_count, count_after, limit, IsLight, StaysWithin}
+use Rattle.evidence_types.specs.Evidence.{Evidence, nonce, seq_pair, par_pair}
+use Rattle.evidence_types.specs.Measure.{of_answer, of_arm, of_pair, leaf_count, count_after, limit, IsLight, StaysWithin}
 use Rattle.evidence_types.proofs.WithinLemmas.{amount-nonce, amount-measured, amount-measured_at, amount-seq_pair, amount-par_pair, of_pair-rises, count_after-rises, within-falls, light_stays}
 use Rattle.session_model.specs.Session.{Session}
 use Rattle.session_model.specs.Value.{Makings, part, leaf_value}

@@ -1,12 +1,12 @@
 -- A history has at most one result for each event, and a result that stops a session is of the event that its state names.
-use Rattle.std.proofs.Common.{◌≡◌, ℕ, ◌+◌, ◌≤◌, inl, inr, List, [], ◌∷◌, ◌++◌, refl, sym, ◌∙◌, ap, subst, arith, append_assoc}
-use Rattle.std.specs.Prelude.{Bool, true, false, Option, None, Some, nat_eq, if◌then◌else◌}
+use Rattle.std.proofs.Common.{◌≡◌, ℕ, ◌+◌, ◌≤◌, inl, inr, List, [], ◌∷◌, ◌++◌, refl, sym, ◌∙◌, ap, subst, arith}
+use Rattle.std.specs.Prelude.{true, false, Option, None, Some, nat_eq, if◌then◌else◌}
 use Rattle.std.proofs.lemmas.Bool.{cases_eq}
 use Rattle.evidence_types.specs.Evidence.{Evidence}
 use Rattle.session_model.specs.Session.{Session}
 use Rattle.session_runs.specs.Configuration.{Configuration}
 use Rattle.session_runs.specs.Moves.{Effect, silent, happens, sends, asks, answers, starts, answer, inner_moves}
-use Rattle.session_runs.specs.Standing.{Move, Entry, opened, played, answered, failed, starved, State, is_open, is_done, has_failed, has_starved, Standing, opening, makings, without_ask, is_in_flight, after, made, played_on, entered, next}
+use Rattle.session_runs.specs.Standing.{Move, Entry, opened, played, answered, failed, starved, State, is_open, is_done, has_failed, has_starved, Standing, opening, makings, without_ask, is_in_flight, after, made, entered, next}
 use Rattle.session_runs.specs.History.{further, standing_after}
 use Rattle.session_runs.specs.Results.{results_of}
 use Rattle.session_runs.specs.Schedule.{is_starving}
@@ -16,7 +16,7 @@ use Rattle.session_runs.proofs.EntryLaws.{Onward, moved, root_ended, faulted, st
 use Rattle.session_runs.proofs.HistoryLaws.{after_more}
 use Rattle.session_runs.proofs.ProgressLaws.{history_sound}
 use Rattle.session_runs.proofs.RecordLaws.{MayCome, in_flight_there, flight_comes, asked_once}
-use Rattle.session_runs.proofs.Rest.{Rest, rest, Takes, Follows, Leaves, leaves}
+use Rattle.session_runs.proofs.Rest.{rest, Takes, Follows, Leaves, leaves}
 use Rattle.session_runs.proofs.RestLaws.{same_one, same_none, asked_count, takes_asked}
 use Rattle.session_runs.proofs.SameSchedules.{EachEntry}
 use Rattle.session_runs.proofs.TraceLaws.{told_after_history}

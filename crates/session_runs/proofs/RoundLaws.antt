@@ -1,20 +1,20 @@
 -- Schedules by tables that agree with the results so far, and by the events that fail.
-use Rattle.std.proofs.Common.{◌≡◌, ℕ, zero, suc, ◌+◌, ◌-◌, ◌≤◌, ◌<◌, inl, inr, List, [], ◌∷◌, length, refl, sym, ◌∙◌, ap, subst, arith}
+use Rattle.std.proofs.Common.{◌≡◌, ℕ, zero, suc, ◌+◌, ◌-◌, inl, inr, List, [], ◌∷◌, refl, sym, ◌∙◌, ap, subst, arith}
 use Rattle.std.specs.Prelude.{Bool, true, false, Option, None, Some, Result, Ok, Err, nat_eq, if◌then◌else◌}
-use Rattle.std.proofs.lemmas.Bool.{cases_lt, cases_eq, eq-eqb, eqb-true, ne_eqb}
+use Rattle.std.proofs.lemmas.Bool.{cases_lt, eq-eqb, eqb-true, ne_eqb}
 use Rattle.bench_trait.specs.declared.bench.BenchFault.TheVariants.{NoArtefact}
 use Rattle.bench_trait.specs.declared.bench.MeasureError.{MeasureError}
 use Rattle.bench_trait.specs.declared.bench.MeasureError.TheVariants.{Fault, NoMemory}
 use Rattle.session_model.specs.Session.{Session}
-use Rattle.session_runs.specs.Standing.{Move, Entry, opened, played, answered, failed, starved, State, is_open, is_done, has_failed, has_starved, Standing, opening, next}
+use Rattle.session_runs.specs.Standing.{Entry, opened, played, answered, failed, starved, State, is_open, is_done, has_failed, has_starved, Standing, next}
 use Rattle.session_runs.specs.MoveOrder.{possible_moves}
-use Rattle.session_runs.specs.Schedule.{Walked, all_opened, result_entry, is_running, is_starving, open_count, one_starves, Round, one_round, rounds, entries_at_most, first_from, begun, after_rounds, scheduled}
-use Rattle.session_runs.specs.Played.{AskOnly, IsWalked, AreWalked, AllWalked, IsPlayed, ArePlayed, AreOver}
+use Rattle.session_runs.specs.Schedule.{Walked, result_entry, is_running, is_starving, open_count, one_starves, Round, one_round, rounds, entries_at_most, begun, after_rounds, scheduled}
+use Rattle.session_runs.specs.Played.{AskOnly, AreWalked, AllWalked, ArePlayed, AreOver}
 use Rattle.session_runs.specs.ByFaults.{traces_of, failed_event, faults_of, failing_at, by_faults, scheduled_traces, AreOfOneKind}
-use Rattle.session_runs.proofs.ScheduleLaws.{AreFine, fine_all, schedule_ends, clash}
+use Rattle.session_runs.proofs.ScheduleLaws.{fine_all, schedule_ends, clash}
 use Rattle.session_runs.proofs.BareLaws.{bare_state, bare_standing, bare_entry, bare_next, next_alike, moves_alike}
 use Rattle.session_runs.proofs.SameSchedules.{IsLikeness, EachEntry, EachHistory, LikeHistory, LikeWalked, LikeAll, LikeRound, Suits, SuitsAt, opened_like, rounds_like}
-use Rattle.session_runs.proofs.OneResult.{FitsState, HasOneResult, history_one}
+use Rattle.session_runs.proofs.OneResult.{FitsState, history_one}
 
 -- the likeness of what is the same
 same_likeness : (places : List (List ℕ)) (keys : List (List ℕ × List ℕ)) → IsLikeness places keys keys (λ s t. s ≡ t) (λ entry other. entry ≡ other)

@@ -1,16 +1,15 @@
 -- Two tables of results, of which one suits the histories that the other leads to: the sessions stay alike, round by
 -- round.
-use Rattle.std.proofs.Common.{◌≡◌, ℕ, zero, suc, ◌+◌, ◌-◌, ◌≤◌, ◌<◌, List, [], ◌∷◌, ◌++◌, length, refl, sym, ◌∙◌, ap, subst, arith, length-append}
+use Rattle.std.proofs.Common.{◌≡◌, ℕ, zero, suc, ◌+◌, ◌-◌, List, [], ◌∷◌, ◌++◌, length, refl, sym, ◌∙◌, ap, subst, arith}
 use Rattle.std.specs.Prelude.{Bool, true, false, Option, None, Some, Result, Ok, Err, nat_eq, if◌then◌else◌}
 use Rattle.bench_trait.specs.declared.bench.MeasureError.{MeasureError}
 use Rattle.bench_trait.specs.declared.bench.MeasureError.TheVariants.{Fault, NoMemory}
 use Rattle.session_model.specs.Session.{Session}
-use Rattle.session_runs.specs.Standing.{Move, Entry, opened, played, answered, failed, starved, is_open, Standing, opening, next}
+use Rattle.session_runs.specs.Standing.{Move, Entry, opened, played, answered, failed, starved, Standing, opening, next}
 use Rattle.session_runs.specs.MoveOrder.{possible_moves, asks_in_order}
-use Rattle.session_runs.specs.Schedule.{draw, Walked, just_opened, all_opened, result_entry, results_first, candidates, is_running, is_starving, open_count, one_starves, with_entry, nth_candidate, with_choice, Chosen, chosen, Round, ahead, moved_on, one_round, rounds, first_from}
-use Rattle.session_runs.specs.Played.{AsksOnly, AskOnly, IsPlayed}
-use Rattle.session_runs.proofs.EntryLaws.{some_is}
-use Rattle.session_runs.proofs.ScheduleLaws.{IsFine, Goes, goes_chosen, AreFine, fine_all, running_open, moves_one, round_moves, some_open}
+use Rattle.session_runs.specs.Schedule.{draw, Walked, all_opened, result_entry, results_first, candidates, is_running, is_starving, open_count, one_starves, with_entry, nth_candidate, with_choice, Chosen, chosen, Round, ahead, moved_on, one_round, rounds}
+use Rattle.session_runs.specs.Played.{AskOnly}
+use Rattle.session_runs.proofs.ScheduleLaws.{Goes, goes_chosen, AreFine, running_open, round_moves, some_open}
 
 -- of standings and entries that are alike, all that comes next is
 pub record IsLikeness (places : List (List ℕ)) (keys others : List (List ℕ × List ℕ)) (Like : Standing → Standing → Type 0) (LikeEntry : Entry → Entry → Type 0) : Type 0 where

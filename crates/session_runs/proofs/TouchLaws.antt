@@ -1,16 +1,16 @@
 -- What a move touches is as its effect is.
-use Rattle.std.proofs.Common.{◌≡◌, ℕ, List, [], ◌∷◌, ◌++◌, refl, sym, ◌∙◌, ap, subst}
+use Rattle.std.proofs.Common.{◌≡◌, ℕ, List, refl, sym, subst}
 use Rattle.std.specs.Prelude.{Bool, true, false, not, Option, None, Some, nat_eq, if◌then◌else◌}
 use Rattle.phrase_tree.specs.Term.{Term, is_measurement, leaf, at, chain, seq, par}
 use Rattle.evidence_types.specs.Evidence.{Evidence, seq_pair, par_pair}
 use Rattle.session_model.specs.Session.{Session}
 use Rattle.session_model.specs.Value.{Makings, leaf_value}
 use Rattle.session_runs.specs.Configuration.{Configuration, todo, asked, posted, remote, first, left_arm, right_arm, both_arms, finished, start, once_finished, followed_by}
-use Rattle.session_runs.specs.Moves.{Step, run as run_step, ask as ask_step, in_block, delivery, Effect, silent, happens, sends, asks, answers, starts, Moved, on_run, on_ask, on_step, only_if, inside, or_else, todo_moves, own_moves, block_moves, inner_moves}
-use Rattle.session_runs.specs.Standing.{Block, root, of, Move, run, ask, deliver, Entry, played, State, is_open, is_done, Standing, makings, front, without_request, after, made, delivered, played_on, next}
+use Rattle.session_runs.specs.Moves.{run as run_step, ask as ask_step, in_block, delivery, Effect, silent, happens, sends, asks, answers, starts, Moved, on_run, on_ask, only_if, inside, or_else, todo_moves, own_moves, block_moves, inner_moves}
+use Rattle.session_runs.specs.Standing.{Block, root, of, Move, run, ask, deliver, played, State, is_open, is_done, Standing, makings, front, after, made, delivered, played_on, next}
 use Rattle.session_runs.specs.Touches.{Touch, touches_nothing, sends_request, sends_reply, needs_request, needs_reply, Touched, touching, sending, touched_or, touch_phrase, touch_own, touch_block, touch_inner, touch_front, touch_move, touched_while, touch_in, sent_in, touch_of, sent_by, IsTouched}
 use Rattle.session_runs.proofs.Induction.{Made}
-use Rattle.session_runs.proofs.EntryLaws.{inner_effect, some_is, no_standing, made_is, once_finished_any, where_open_is}
+use Rattle.session_runs.proofs.EntryLaws.{inner_effect, some_is, no_standing, made_is, where_open_is}
 use Rattle.session_runs.proofs.StepLaws.{FitsStep, own_fits, inner_fits}
 
 -- effects that are of no request

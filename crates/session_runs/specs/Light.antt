@@ -1,6 +1,6 @@
 -- What holds of every value that a session has, or makes next (this project's own).
 use Rattle.std.specs.Prelude.{ℕ, List, [], ◌∷◌}
-use Rattle.phrase_tree.specs.Term.{Term, Leaf, cpy, sig, hsh, nul, usm, kim, leaf, at, chain, seq, par}
+use Rattle.phrase_tree.specs.Term.{Term, Leaf, usm, kim, leaf, at, chain, seq, par}
 use Rattle.evidence_types.specs.Answer.{FitsAnswer}
 use Rattle.evidence_types.specs.Evidence.{Evidence, seq_pair, par_pair}
 use Rattle.session_model.specs.Value.{Makings, part, leaf_value}

@@ -10,6 +10,8 @@ mod laws;
 mod light;
 mod order;
 mod room;
+#[cfg(test)]
+mod schedule_tests;
 mod schedules;
 #[cfg(test)]
 mod tests;

@@ -1,4 +1,4 @@
-use Rattle.session_runs.proofs.OneResult.{HasOneResult, history_one, flying_none}
+use Rattle.session_runs.proofs.OneResult.{history_one, flying_none}
 use Rattle.session_runs.proofs.schedules.result_count_law.Goals as goal
 
 pub returns : goal.returns
