@@ -1,4 +1,5 @@
 mod WorkedBlocks
+mod WorkedQuestions
 pub mod Starting
 pub mod Fitting
 pub mod Deeds
@@ -14,3 +15,4 @@ pub mod Entries
 pub mod Readiness
 pub mod Agenda
 pub mod Freshness
+pub mod Questions

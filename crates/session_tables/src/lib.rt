@@ -7,4 +7,4 @@ mod laws;
 #[cfg(test)]
 mod tests;
 
-pub use laws::{agenda_law, entry_law, ready_law, start_law, tables_law};
+pub use laws::{agenda_law, entry_law, question_law, ready_law, start_law, tables_law};
