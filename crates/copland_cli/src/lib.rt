@@ -24,6 +24,5 @@ mod walk;
 mod words;
 
 pub use laws::{commands_are_decisive, reports_follow_from_bytes};
-pub use session::blocks_have_keys;
 pub use status::Status;
 pub use top::{plain_top, refuse};

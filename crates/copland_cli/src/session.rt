@@ -1,8 +1,5 @@
-ghost use Rattle.std.specs.Prelude.{◌≡◌, ◌++◌, List, ℕ, IfOk, IsTrue, is_some};
-ghost use Rattle.std.specs.List.{AllByRecursion};
+ghost use Rattle.std.specs.Prelude.{◌≡◌, ◌++◌, List, ℕ, IfOk};
 ghost use Rattle.phrase_tree.specs.Term.{term};
-ghost use Rattle.seal_hmac.specs.Keys.{key_of};
-ghost use Rattle.avm_compile.specs.Program.{program_of};
 ghost use Rattle.place_check.specs.Places.{keys_of};
 ghost use Rattle.place_check.specs.Session.{IsCheckedAgainst, session_of};
 ghost use Rattle.plain_eval.specs.Keyed.{HasKeys};
@@ -17,11 +14,10 @@ use crate::record::Record;
 use crate::report::{push_check, push_code, push_events, push_record, push_shape, push_value};
 use crate::walk::walk_rising;
 use crate::words::Command;
-use avm_compile::blocks_are_where_events_are;
 use bench_trait::Bench;
 use job_reader::Job;
 use phrase_tree::NoMemory;
-use place_check::{Checked, Places, checked_session_has_keys};
+use place_check::{Checked, checked_session_has_keys};
 use plain_eval::events_have_the_keys_of_seals;
 use std::alloc::Global;
 
@@ -145,16 +141,4 @@ fn have_keys(job: &Job, checked: &Checked)
 {
     checked_session_has_keys(&job.places, checked);
     events_have_the_keys_of_seals();
-}
-
-/// A law: each block of the program of a session that was checked against places is at a place whose
-/// key is among theirs, so each `Sign` of it has its key. It does nothing.
-pub fn blocks_have_keys(places: &Places, checked: &Checked)
-    requires { IsCheckedAgainst (session_of checked.now) places.now }
-    ensures { AllByRecursion
-        (λ one. IsTrue (is_some (key_of (keys_of places.now) one.place)))
-        (program_of (term checked.now.phrase) checked.now.root) }
-{
-    checked_session_has_keys(places, checked);
-    blocks_are_where_events_are();
 }

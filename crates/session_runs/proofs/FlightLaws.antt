@@ -12,7 +12,7 @@ use Rattle.session_runs.specs.History.{further, standing_after}
 use Rattle.session_runs.specs.MoveOrder.{Ready, ready_to, ready_in, ready_of}
 use Rattle.session_runs.specs.Progress.{IsAwaited}
 use Rattle.session_runs.specs.Ordered.{AreApart}
-use Rattle.session_runs.specs.Flights.{events_in_flight, is_result_of, HasNoResult, AsksQuestion}
+use Rattle.session_runs.specs.Flights.{events_in_flight, is_result_of, HasNoResult, is_by, entries_by, IsUnanswered, AsksQuestion}
 use Rattle.session_runs.proofs.Induction.{Made}
 use Rattle.session_runs.proofs.EntryLaws.{Onward, moved, root_ended, faulted, starves, onward, some_is, no_standing, made_is, if_standing, where_open_is, IsNoAnswer}
 use Rattle.session_runs.proofs.Rest.{Leaves, leaves, rest}
@@ -23,11 +23,11 @@ use Rattle.session_runs.proofs.ProgressLaws.{until_own}
 use Rattle.session_runs.proofs.ReadyLaws.{IsReady, event_in, until_inner, own_ready, inner_ready}
 use Rattle.session_runs.proofs.StepLaws.{FitsStep, own_fits, inner_fits}
 use Rattle.session_runs.proofs.HistoryLaws.{after_more}
-use Rattle.session_runs.proofs.ResultLaws.{history_awaits}
+use Rattle.session_runs.proofs.ResultLaws.{HasQuestion, hit_question, history_awaits}
 use Rattle.session_runs.proofs.RecordLaws.{in_flight_there}
 use Rattle.session_runs.proofs.ListingLaws.{IsAmong, contains_among}
 use Rattle.session_runs.proofs.OwnerLaws.{history_owned}
-use Rattle.session_runs.proofs.RoomLaws.{flying_events, apart_from, flights_left, history_roomy}
+use Rattle.session_runs.proofs.RoomLaws.{flying_events, apart_from, flights_left, history_roomy, history_once, hits_asked}
 
 -- of an event that is in flight once, one pass has asked
 one_asker : (flown : List (ℕ × ℕ)) (pass other event : ℕ) → ask_count flown event ≤ 1 → is_in_flight flown pass event ≡ true → is_in_flight flown other event ≡ true → pass ≡ other
@@ -155,7 +155,7 @@ flies_on : (session : Session) (keys : List (List ℕ × List ℕ)) (history : L
 flies_on session keys history s [] t pass event e f another flying =
     subst (λ x. is_in_flight x.in_flight pass event ≡ true) (some_is Standing s t f) flying
 flies_on session keys history s (entry ∷ more) t pass event e f another flying =
-    through (λ u is g. flies_on session keys (history ++ entry ∷ []) u more t pass event (after_more session keys history s entry e ∙ is) g another.1 (next_flies session keys s pass event ((history_roomy session keys history s e).held.once event) flying entry u is another.0)) (next session keys s entry) refl f
+    through (λ u is g. flies_on session keys (history ++ entry ∷ []) u more t pass event (after_more session keys history s entry e ∙ is) g another.1 (next_flies session keys s pass event (history_once session keys history s e event) flying entry u is another.0)) (next session keys s entry) refl f
   where
     through : ((u : Standing) → next session keys s entry ≡ Some u → further session keys (Some u) more ≡ Some t → is_in_flight t.in_flight pass event ≡ true) → (x : Option Standing) → next session keys s entry ≡ x → further session keys x more ≡ Some t → is_in_flight t.in_flight pass event ≡ true
     through go None is g = further_none session keys more t (is_in_flight t.in_flight pass event ≡ true) g
@@ -167,11 +167,52 @@ history_flies_on session keys history more s t pass event e flying f another =
 
 pub history_flies_once : (session : Session) (keys : List (List ℕ × List ℕ)) (history : List Entry) (s : Standing) → standing_after session keys history ≡ Some s → AreApart ℕ (events_in_flight s.in_flight)
 history_flies_once session keys history s e =
-    apart_from (events_in_flight s.in_flight) (λ n. omega (arith, flying_events s.in_flight n, (history_roomy session keys history s e).held.once n))
+    apart_from (events_in_flight s.in_flight) (λ n. omega (arith, flying_events s.in_flight n, history_once session keys history s e n))
 
 pub history_one_asker : (session : Session) (keys : List (List ℕ × List ℕ)) (history : List Entry) (s : Standing) (pass other event : ℕ) → standing_after session keys history ≡ Some s → is_in_flight s.in_flight pass event ≡ true → is_in_flight s.in_flight other event ≡ true → pass ≡ other
 history_one_asker session keys history s pass other event e h k =
-    one_asker s.in_flight pass other event ((history_roomy session keys history s e).held.once event) h k
+    one_asker s.in_flight pass other event (history_once session keys history s e event) h k
+
+number_among : (asks_of : List Ask) (n : ℕ) (one : Ask) → question_among asks_of n ≡ Some one → one.event ≡ n
+number_among [] n one e = no_question e
+  where
+    no_question : ◌≡◌ {A = Option Ask} None (Some one) → one.event ≡ n
+    no_question e = absurd (cc)
+number_among (other ∷ rest) n one e = elim (cases_eq other.event n) [
+  | inl is ↦
+      let same_ask : other ≡ one = some_is Ask other one (sym (ap (λ b. if b then Some other else question_among rest n) (eq-eqb other.event n is)) ∙ e) in
+      sym (ap (λ a. a.event) same_ask) ∙ is
+  | inr ne ↦ number_among rest n one (sym (ap (λ b. if b then Some other else question_among rest n) (ne_eqb other.event n ne)) ∙ e)
+]
+
+-- an ask in flight is of a question, however the session stands
+pub history_unanswered : (session : Session) (keys : List (List ℕ × List ℕ)) (history : List Entry) (s : Standing) (pass event : ℕ) → standing_after session keys history ≡ Some s → is_in_flight s.in_flight pass event ≡ true → IsUnanswered session s event
+history_unanswered session keys history s pass event e flying =
+    let held = (history_roomy session keys history s e).held in
+    let there : 1 ≤ ask_count s.in_flight event = in_flight_there s.in_flight pass event flying in
+    let w : HasQuestion (session_questions session) event = hit_question (session_questions session) event (omega (arith, there, held.asked event, hits_asked session event)) in
+    record {
+      ask = w.ask;
+      asked = w.asked;
+      number = number_among (session_questions session) event w.ask w.asked;
+      lacking = λ c. omega (arith, there, occurs_from s.trace event c, held.lacking event);
+    }
+
+-- the entries of other passes are no results of a pass
+own_results : (pass event : ℕ) (entry : Entry) → is_by pass entry ≡ false → is_result_of pass event entry ≡ false
+own_results pass event opened other = refl
+own_results pass event (played maker move) other = refl
+own_results pass event (answered maker number bytes) other = ap (λ b. b && nat_eq number event) other
+own_results pass event (failed maker number fault) other = ap (λ b. b && nat_eq number event) other
+own_results pass event (starved maker number) other = ap (λ b. b && nat_eq number event) other
+
+pub results_by : (pass event : ℕ) (entries : List Entry) → HasNoResult pass event (entries_by pass entries) → HasNoResult pass event entries
+results_by pass event [] h = tt
+results_by pass event (entry ∷ entries) h = by_test (λ k. results_by pass event entries k) (is_by pass entry) refl h
+  where
+    by_test : (HasNoResult pass event (entries_by pass entries) → HasNoResult pass event entries) → (b : Bool) → is_by pass entry ≡ b → HasNoResult pass event (if b then entry ∷ entries_by pass entries else entries_by pass entries) → HasNoResult pass event (entry ∷ entries)
+    by_test more true is k = (k.0, more k.1)
+    by_test more false is k = (own_results pass event entry is, more k)
 
 -- what a step that asks does
 asks_one : (effect : Effect) → FitsStep ask_step effect → (n : ℕ) × (effect ≡ asks n)
@@ -228,18 +269,6 @@ false_unless : (b : Bool) → (b ≡ true → ⊥) → b ≡ false
 false_unless true f = absurd (f refl)
 false_unless false f = refl
 
-number_among : (asks_of : List Ask) (n : ℕ) (one : Ask) → question_among asks_of n ≡ Some one → one.event ≡ n
-number_among [] n one e = no_question e
-  where
-    no_question : ◌≡◌ {A = Option Ask} None (Some one) → one.event ≡ n
-    no_question e = absurd (cc)
-number_among (other ∷ rest) n one e = elim (cases_eq other.event n) [
-  | inl is ↦
-      let same_ask : other ≡ one = some_is Ask other one (sym (ap (λ b. if b then Some other else question_among rest n) (eq-eqb other.event n is)) ∙ e) in
-      sym (ap (λ a. a.event) same_ask) ∙ is
-  | inr ne ↦ number_among rest n one (sym (ap (λ b. if b then Some other else question_among rest n) (ne_eqb other.event n ne)) ∙ e)
-]
-
 pub history_asks : (session : Session) (keys : List (List ℕ × List ℕ)) (history : List Entry) (s : Standing) (pass : ℕ) (block : Block) (t : Standing) → standing_after session keys history ≡ Some s → next session keys s (played pass (ask block)) ≡ Some t → AsksQuestion session s pass block t
 history_asks session keys history s pass block t e f =
     where_open_is (AsksQuestion session s pass block t) s.state (entered (makings session keys) session.root s (played pass (ask block))) t (λ still h. at_open still (played_asks session keys s pass block t h)) f
@@ -262,7 +291,7 @@ history_asks session keys history s pass block t e f =
           number = number_among (session_questions session) n a.ask a.asked;
           owned = history_owned session keys history s (ready_at block ask_step (Some n)) n e (contains_among Ready (ready_of s.configuration) (ready_at block ask_step (Some n)) (ready_among (ready_of s.configuration) block ask_step (Some n) w.ready)) refl;
           lacking = λ c. omega (arith, subst (λ xs. Contains xs n → 1 ≤ occurrences t.trace n) w.trace (λ d. occurs_from t.trace n d) c, r.told.counted n, phrase_once session.phrase n, in_flight_there t.in_flight pass n there, open_there.waits.flying n, flights_left t.configuration n, asked_counted (rest t.configuration) n);
-          unasked = λ other. false_unless (is_in_flight s.in_flight other n) (λ h. omega (arith, in_flight_there s.in_flight other n h, counted, same_one n n refl, r.held.once n));
+          unasked = λ other. false_unless (is_in_flight s.in_flight other n) (λ h. omega (arith, in_flight_there s.in_flight other n h, counted, same_one n n refl, r.held.lacking n));
           flies = w.flies;
           trace = w.trace;
         }

@@ -13,7 +13,7 @@ use Rattle.session_runs.proofs.ChoiceLaws.{history_one_mover}
 use Rattle.session_runs.proofs.ListingLaws.{IsAmong, contains_among, among_contains, among_split}
 use Rattle.session_runs.proofs.OwnerLaws.{history_owned}
 use Rattle.session_runs.proofs.RestLaws.{same_one}
-use Rattle.session_runs.proofs.RoomLaws.{history_roomy}
+use Rattle.session_runs.proofs.RoomLaws.{history_once}
 use Rattle.session_runs.proofs.Waiting.{ask_count}
 
 if_true : (A : Type 0) (b : Bool) (x y : A) → b ≡ true → (if b then x else y) ≡ x
@@ -463,7 +463,7 @@ rise_apart A key (x ∷ xs) h = (
 )
 
 pub history_asks_rise : (session : Session) (keys : List (List ℕ × List ℕ)) (history : List Entry) (s : Standing) → standing_after session keys history ≡ Some s → Rise (ℕ × ℕ) event_of_ask (asks_in_order s.in_flight)
-history_asks_rise session keys history s e = once_rise s.in_flight (λ n. (history_roomy session keys history s e).held.once n)
+history_asks_rise session keys history s e = once_rise s.in_flight (λ n. history_once session keys history s e n)
 
 pub history_asks_apart : (session : Session) (keys : List (List ℕ × List ℕ)) (history : List Entry) (s : Standing) → standing_after session keys history ≡ Some s → AreApart (ℕ × ℕ) (asks_in_order s.in_flight)
 history_asks_apart session keys history s e = rise_apart (ℕ × ℕ) event_of_ask (asks_in_order s.in_flight) (history_asks_rise session keys history s e)

@@ -79,11 +79,11 @@ of_phrase_after session keys history s e =
     kept_after session keys (λ x. IsOfPhrase session x.configuration) (λ u entry t of_phrase f. of_phrase_next session u entry t of_phrase (onward Leaves session keys (leaves (makings session keys)) u entry t f).1) (of_phrase_opening session) history s e
 
 -- an event that questions hit has one
-record HasQuestion (questions : List Ask) (n : ℕ) : Type 0 where
-  ask : Ask
-  asked : question_among questions n ≡ Some ask
+pub record HasQuestion (questions : List Ask) (n : ℕ) : Type 0 where
+  pub ask : Ask
+  pub asked : question_among questions n ≡ Some ask
 
-hit_question : (questions : List Ask) (n : ℕ) → 1 ≤ hits questions n → HasQuestion questions n
+pub hit_question : (questions : List Ask) (n : ℕ) → 1 ≤ hits questions n → HasQuestion questions n
 hit_question [] n h = absurd (omega arith)
 hit_question (one ∷ questions) n h = elim (cases_eq one.event n) [
   | inl e ↦ record { ask = one; asked = ap (λ b. if b then Some one else question_among questions n) (eq-eqb one.event n e) }

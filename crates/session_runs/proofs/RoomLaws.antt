@@ -13,7 +13,7 @@ use Rattle.session_runs.specs.Standing.{Entry, State, is_open, is_done, has_fail
 use Rattle.session_runs.specs.History.{standing_after}
 use Rattle.session_runs.specs.Ordered.{AreApart}
 use Rattle.session_runs.specs.Flights.{events_in_flight}
-use Rattle.session_runs.specs.Room.{blocks_in, events_answered, events_asked, HasRoom, AreAnswersSoFar, IsAllDone}
+use Rattle.session_runs.specs.Room.{blocks_in, one_if, ended_in, events_answered, events_asked, HasRoom, AreAnswersSoFar, IsAllDone}
 use Rattle.session_runs.proofs.Induction.{Made, Together, together}
 use Rattle.session_runs.proofs.EntryLaws.{Onward, moved, root_ended, faulted, starves, onward, after_state, after_configuration}
 use Rattle.session_runs.proofs.Rest.{Rest, none, only_event, ahead, beside, ahead_of, beside_of, framed, rest_of, rest, rest_start, Follows, Leaves, leaves}
@@ -199,16 +199,20 @@ asked_left (both_arms i last left right ended) =
     omega (arith, left_ahead (beside_of (rest left) (rest right)) (only_event false last), left_beside (rest left) (rest right), length-append (asked_in left) (asked_in right), asked_left left, asked_left right)
 asked_left (finished result) = omega arith
 
-posted_blocks : (c : Configuration) → length (posted_in c) ≤ blocks_in c
+one_most : (b : Bool) → one_if b ≤ 1
+one_most true = omega arith
+one_most false = omega arith
+
+posted_blocks : (c : Configuration) → length (posted_in c) + ended_in c ≤ blocks_in c
 posted_blocks (todo phrase i before) = omega arith
 posted_blocks (asked form i before) = omega arith
 posted_blocks (posted asked_place i body before) = omega arith
-posted_blocks (remote asked_place i last inner ended) = omega (arith, posted_blocks inner)
+posted_blocks (remote asked_place i last inner ended) = omega (arith, posted_blocks inner, one_most ended)
 posted_blocks (first inner right i) = posted_blocks inner
 posted_blocks (left_arm inner right i before last) = posted_blocks inner
 posted_blocks (right_arm left_result inner last) = posted_blocks inner
 posted_blocks (both_arms i last left right ended) =
-    omega (arith, length-append (posted_in left) (posted_in right), posted_blocks left, posted_blocks right)
+    omega (arith, length-append (posted_in left) (posted_in right), posted_blocks left, posted_blocks right, one_most ended)
 posted_blocks (finished result) = omega arith
 
 -- an ask in flight is of an event that is left
@@ -233,20 +237,30 @@ trace_many session s told =
     let counts : (n : ℕ) → occurrences both n ≡ occurrences all n = λ n. omega (arith, occurrences_append s.trace (left_in (rest s.configuration)) n, left_counts (rest s.configuration) n, told.counted n, left_counts (rest_of session.phrase 0) n) in
     omega (arith, no_longer both all (λ n. omega (arith, counts n)), no_longer all both (λ n. omega (arith, counts n)), length-append s.trace (left_in (rest s.configuration)), left_phrase session.phrase 0)
 
+-- each answer is for a question whose event has happened
+pub record IsLogged (session : Session) (r : Rest) (trace : List ℕ) (log : List (ℕ × List ℕ)) : Type 0 where
+  pub counted : (n : ℕ) → occurrences (events_answered log) n + asked_count r n ≡ asked_count (rest_of session.phrase 0) n
+  pub traced : (n : ℕ) → occurrences (events_answered log) n ≤ occurrences trace n
+
+abbrev pub Logged : Session → Standing → Type 0
+Logged session s = IsLogged session (rest s.configuration) s.trace s.answers
+
 -- what a standing holds
 pub record IsHeld (session : Session) (s : Standing) : Type 0 where
-  pub once : (n : ℕ) → ask_count s.in_flight n ≤ 1
+  pub asked : (n : ℕ) → ask_count s.in_flight n ≤ asked_count (rest_of session.phrase 0) n
+  pub lacking : (n : ℕ) → ask_count s.in_flight n + occurrences s.trace n ≤ 1
   pub events : length s.trace + length s.in_flight + blocks_in s.configuration ≤ event_count session.phrase
-  pub requests : length s.requests ≤ blocks_in s.configuration
+  pub waiting : length s.requests + ended_in s.configuration ≤ blocks_in s.configuration
 
-held_open : (session : Session) (s : Standing) → Told session s → IsSound s → IsHeld session s
-held_open session s told sound =
+held_open : (session : Session) (s : Standing) → Told session s → IsSound s → Logged session s → IsHeld session s
+held_open session s told sound logged =
     let fewer : length s.in_flight ≤ length (asked_in s.configuration) = omega (arith, no_longer (events_in_flight s.in_flight) (asked_in s.configuration) (λ n. omega (arith, flying_events s.in_flight n, sound.waits.flying n, asked_flights s.configuration n)), flying_many s.in_flight) in
     let waiting : length s.requests ≤ length (posted_in s.configuration) = omega (arith, no_longer (requested s.requests) (posted_in s.configuration) (λ n. omega (arith, requested_numbers s.requests n, sound.waits.requested n, posted_posts s.configuration n)), requested_many s.requests) in
     record {
-      once = λ n. omega (arith, sound.waits.flying n, flights_left s.configuration n, asked_counted (rest s.configuration) n, told.counted n, phrase_once session.phrase n);
+      asked = λ n. omega (arith, sound.waits.flying n, flights_left s.configuration n, logged.counted n);
+      lacking = λ n. omega (arith, sound.waits.flying n, flights_left s.configuration n, asked_counted (rest s.configuration) n, told.counted n, phrase_once session.phrase n);
       events = omega (arith, fewer, asked_left s.configuration, trace_many session s told);
-      requests = omega (arith, waiting, posted_blocks s.configuration);
+      waiting = omega (arith, waiting, posted_blocks s.configuration);
     }
 
 ask_gone : (k : ℕ) (flown : List (ℕ × ℕ)) → length (without_ask k flown) ≤ length flown
@@ -268,15 +282,11 @@ ask_fewer k (one ∷ rest) n = by_test (nat_eq one.0 k) (ask_fewer k rest n)
 
 held_stopped : (session : Session) (s : Standing) (k : ℕ) (state : State) → IsHeld session s → IsHeld session (record s { in_flight = without_ask k s.in_flight; state = state })
 held_stopped session s k state held = record {
-  once = λ n. omega (arith, ask_fewer k s.in_flight n, held.once n);
+  asked = λ n. omega (arith, ask_fewer k s.in_flight n, held.asked n);
+  lacking = λ n. omega (arith, ask_fewer k s.in_flight n, held.lacking n);
   events = omega (arith, ask_gone k s.in_flight, held.events);
-  requests = held.requests;
+  waiting = held.waiting;
 }
-
--- each answer is for a question whose event has happened
-pub record IsLogged (session : Session) (r : Rest) (trace : List ℕ) (log : List (ℕ × List ℕ)) : Type 0 where
-  pub counted : (n : ℕ) → occurrences (events_answered log) n + asked_count r n ≡ asked_count (rest_of session.phrase 0) n
-  pub traced : (n : ℕ) → occurrences (events_answered log) n ≤ occurrences trace n
 
 logged_moves : (session : Session) (r : Rest) (trace : List ℕ) (log : List (ℕ × List ℕ)) (effect : Effect) (r' : Rest) → IsLogged session r trace log → Follows r effect r' → IsLogged session r' (trace_with trace effect) (log_with log effect)
 logged_moves session r trace log silent r' l h = subst (λ x. IsLogged session x trace log) (sym h) l
@@ -302,9 +312,6 @@ after_log pass s (sends place n) c = refl
 after_log pass s (asks n) c = refl
 after_log pass s (answers n bytes) c = refl
 after_log pass s (starts n) c = refl
-
-abbrev pub Logged : Session → Standing → Type 0
-Logged session s = IsLogged session (rest s.configuration) s.trace s.answers
 
 logged_moved : (session : Session) (s : Standing) (pass : ℕ) (m : Made) → Logged session s → Follows (rest s.configuration) m.0 (rest m.1) → Logged session (after pass s m.0 m.1)
 logged_moved session s pass m l h =
@@ -347,12 +354,16 @@ pub record IsRoomy (session : Session) (s : Standing) : Type 0 where
 abbrev Roomy : List ℕ → Configuration → Effect → Configuration → Type 0
 Roomy = Together Leaves (Together (Together Posts Flies) StaysProper)
 
+logged_opening : (session : Session) → Logged session (opening session)
+logged_opening session =
+    subst (λ r. IsLogged session r [] []) (sym (rest_start session.phrase 0 (nonce session.nonce))) (record { counted = λ n. omega arith; traced = λ n. omega arith })
+
 roomy_opening : (session : Session) → IsRoomy session (opening session)
 roomy_opening session = record {
   told = told_opening session;
   sound = sound_opening session;
-  held = held_open session (opening session) (told_opening session) ((sound_opening session).sound refl);
-  logged = subst (λ r. IsLogged session r [] []) (sym (rest_start session.phrase 0 (nonce session.nonce))) (record { counted = λ n. omega arith; traced = λ n. omega arith });
+  held = held_open session (opening session) (told_opening session) ((sound_opening session).sound refl) (logged_opening session);
+  logged = logged_opening session;
   ends = tt;
 }
 
@@ -363,7 +374,7 @@ module _ (session : Session) (s : Standing) (still : s.state ≡ is_open) (r : I
       record {
         told = told;
         sound = sound;
-        held = held_open session (after pass s m.0 m.1) told (sound.sound open_still);
+        held = held_open session (after pass s m.0 m.1) told (sound.sound open_still) (logged_moved session s pass m r.logged h);
         logged = logged_moved session s pass m r.logged h;
         ends = end_open (after pass s m.0 m.1).state (after pass s m.0 m.1) open_still;
       }
@@ -375,7 +386,7 @@ module _ (session : Session) (s : Standing) (still : s.state ≡ is_open) (r : I
       subst (λ x. IsRoomy session x) (sym then_is) (record {
         told = r.told;
         sound = sound_next session s entry (record s { state = is_done value }) still r.sound (root_ended value is refl);
-        held = record { once = r.held.once; events = r.held.events; requests = r.held.requests };
+        held = record { asked = r.held.asked; lacking = r.held.lacking; events = r.held.events; waiting = r.held.waiting };
         logged = r.logged;
         ends = ends_done s value (r.sound.sound still) is;
       })
@@ -404,7 +415,11 @@ history_roomy session keys history s e =
     roomy_next session u o.0 roomy entry t o.1)
     (roomy_opening session) history s e
 
-hits_asked : (session : Session) (n : ℕ) → hits (session_questions session) n ≡ asked_count (rest_of session.phrase 0) n
+-- each event is in flight at most once
+pub history_once : (session : Session) (keys : List (List ℕ × List ℕ)) (history : List Entry) (s : Standing) → standing_after session keys history ≡ Some s → (n : ℕ) → ask_count s.in_flight n ≤ 1
+history_once session keys history s e n = omega (arith, (history_roomy session keys history s e).held.lacking n)
+
+pub hits_asked : (session : Session) (n : ℕ) → hits (session_questions session) n ≡ asked_count (rest_of session.phrase 0) n
 hits_asked session n = hits_of session.nonce session.phrase session.root 0 n
 
 pub history_room : (session : Session) (keys : List (List ℕ × List ℕ)) (history : List Entry) (s : Standing) → standing_after session keys history ≡ Some s → HasRoom session s
@@ -413,7 +428,7 @@ history_room session keys history s e =
     let fewer : length (events_answered s.answers) ≤ length (events_asked (session_questions session)) = no_longer (events_answered s.answers) (events_asked (session_questions session)) (λ n. omega (arith, r.logged.counted n, hits_asked session n, asked_events (session_questions session) n)) in
     record {
       events = r.held.events;
-      requests = r.held.requests;
+      waiting = r.held.waiting;
       answers = omega (arith, fewer, answered_many s.answers, asked_many (session_questions session));
     }
 

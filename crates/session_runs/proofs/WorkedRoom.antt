@@ -1,5 +1,5 @@
 -- Order, results and room worked by hand: an edit of their definitions is refused here.
-use Rattle.std.proofs.Common.{◌≡◌, ℕ, List, [], ◌∷◌, length, refl}
+use Rattle.std.proofs.Common.{◌≡◌, ℕ, List, [], ◌∷◌, ◌++◌, length, refl}
 use Rattle.std.specs.Prelude.{codes, Bool, true, false, Option, None, Some}
 use Rattle.phrase_tree.specs.declared.measurement.Asp.{Asp}
 use Rattle.phrase_tree.specs.declared.phrase.Split.{Split}
@@ -10,8 +10,8 @@ use Rattle.session_model.specs.Session.{Session, session_questions}
 use Rattle.session_runs.specs.Standing.{root, of, run, ask, deliver, Entry, opened, played, answered, failed, starved, Standing}
 use Rattle.session_runs.specs.History.{standing_after}
 use Rattle.session_runs.specs.Ordered.{waiting_places, deliver_at}
-use Rattle.session_runs.specs.Flights.{events_in_flight, is_result_of}
-use Rattle.session_runs.specs.Room.{blocks_in, events_answered, events_asked}
+use Rattle.session_runs.specs.Flights.{events_in_flight, is_result_of, entries_by}
+use Rattle.session_runs.specs.Room.{blocks_in, ended_in, events_answered, events_asked}
 
 abbrev bank : List ℕ
 bank = codes "bank"
@@ -40,9 +40,9 @@ all_asked =
 abbrev counts_of : Option Standing → List ℕ
 counts_of None = []
 counts_of (Some s) =
-    length s.trace ∷ length s.in_flight ∷ blocks_in s.configuration ∷ length s.requests ∷ length s.answers ∷ []
+    length s.trace ∷ length s.in_flight ∷ blocks_in s.configuration ∷ ended_in s.configuration ∷ length s.requests ∷ length s.answers ∷ []
 
-counts_of_three : counts_of (standing_after three [] all_asked) ≡ 2 ∷ 3 ∷ 2 ∷ 0 ∷ 0 ∷ []
+counts_of_three : counts_of (standing_after three [] all_asked) ≡ 2 ∷ 3 ∷ 2 ∷ 0 ∷ 0 ∷ 0 ∷ []
 counts_of_three = refl
 
 events_of_three : event_count three.phrase ≡ 7
@@ -62,8 +62,16 @@ flying_of_three = refl
 abbrev there_and_back : Session
 there_and_back = session_of (at q (at bank (leaf cpy)))
 
-counts_on_the_way : counts_of (standing_after there_and_back [] (opened ∷ played 0 (run root) ∷ played 0 (deliver q) ∷ played 0 (run (of 0)) ∷ [])) ≡ 2 ∷ 0 ∷ 2 ∷ 1 ∷ 0 ∷ []
+counts_on_the_way : counts_of (standing_after there_and_back [] (opened ∷ played 0 (run root) ∷ played 0 (deliver q) ∷ played 0 (run (of 0)) ∷ [])) ≡ 2 ∷ 0 ∷ 2 ∷ 0 ∷ 1 ∷ 0 ∷ []
 counts_on_the_way = refl
+
+-- the inner block has ended, and its reply waits
+counts_on_the_way_back : counts_of (standing_after there_and_back [] (opened ∷ played 0 (run root) ∷ played 0 (deliver q) ∷ played 0 (run (of 0)) ∷ played 0 (deliver bank) ∷ played 0 (run (of 1)) ∷ played 0 (run (of 1)) ∷ [])) ≡ 3 ∷ 0 ∷ 2 ∷ 1 ∷ 0 ∷ 0 ∷ []
+counts_on_the_way_back = refl
+
+-- the right arm has ended, and its result waits for the left one
+counts_beside : counts_of (standing_after three [] (all_asked ++ answered 0 5 (1 ∷ []) ∷ played 0 (run (of 0)) ∷ [])) ≡ 3 ∷ 2 ∷ 2 ∷ 1 ∷ 0 ∷ 1 ∷ []
+counts_beside = refl
 
 -- the results of the pass 1 for the event 3
 abbrev are_results : List Entry → List Bool
@@ -72,6 +80,10 @@ are_results (entry ∷ rest) = is_result_of 1 3 entry ∷ are_results rest
 
 results_of_one : are_results (answered 1 3 [] ∷ failed 1 3 (Broken 1) ∷ starved 1 3 ∷ answered 0 3 [] ∷ answered 1 2 [] ∷ failed 0 3 (Broken 1) ∷ starved 1 2 ∷ played 1 (ask (of 1)) ∷ opened ∷ []) ≡ true ∷ true ∷ true ∷ false ∷ false ∷ false ∷ false ∷ false ∷ false ∷ []
 results_of_one = refl
+
+-- the entries of the pass 1
+entries_of_one : entries_by 1 (opened ∷ played 0 (run root) ∷ played 1 (ask root) ∷ answered 0 3 [] ∷ failed 1 2 (Broken 1) ∷ starved 0 2 ∷ answered 1 3 [] ∷ []) ≡ played 1 (ask root) ∷ failed 1 2 (Broken 1) ∷ answered 1 3 [] ∷ []
+entries_of_one = refl
 
 -- deliveries in the order of the places, whatever that of the requests
 waiting_in_order : deliver_at (waiting_places ((q, 4) ∷ (bank, 1) ∷ (q, 2) ∷ []) (bank ∷ codes "p" ∷ q ∷ [])) ≡ deliver bank ∷ deliver q ∷ []

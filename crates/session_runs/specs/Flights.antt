@@ -1,10 +1,10 @@
 -- Which entries end an ask in flight, and what a move that asks asks for (this project's own).
-use Rattle.std.specs.Prelude.{◌≡◌, ℕ, Bool, false, List, [], ◌∷◌, Some, nat_eq, ◌&&◌, Contains}
+use Rattle.std.specs.Prelude.{◌≡◌, ℕ, Bool, false, List, [], ◌∷◌, Some, nat_eq, ◌&&◌, if◌then◌else◌, Contains}
 use Rattle.bench_trait.specs.declared.ask.Ask.{Ask}
 use Rattle.bench_trait.specs.Asking.{question}
 use Rattle.session_model.specs.Session.{Session}
 use Rattle.session_runs.specs.Owner.{owner}
-use Rattle.session_runs.specs.Standing.{Block, root, Entry, answered, failed, starved, Standing, is_in_flight}
+use Rattle.session_runs.specs.Standing.{Block, root, Entry, opened, played, answered, failed, starved, Standing, is_in_flight}
 
 -- the events of the asks in flight
 abbrev pub events_in_flight : List (ℕ × ℕ) → List ℕ
@@ -22,6 +22,26 @@ is_result_of pass event _ = false
 abbrev pub HasNoResult : ℕ → ℕ → List Entry → Type 0
 HasNoResult pass event [] = Unit {0}
 HasNoResult pass event (entry ∷ entries) = (is_result_of pass event entry ≡ false) × HasNoResult pass event entries
+
+-- an entry is by this pass; the opening is by none
+abbrev pub is_by : ℕ → Entry → Bool
+is_by pass opened = false
+is_by pass (played maker move) = nat_eq maker pass
+is_by pass (answered maker number bytes) = nat_eq maker pass
+is_by pass (failed maker number fault) = nat_eq maker pass
+is_by pass (starved maker number) = nat_eq maker pass
+
+-- those of these entries that are
+abbrev pub entries_by : ℕ → List Entry → List Entry
+entries_by pass [] = []
+entries_by pass (entry ∷ entries) = if is_by pass entry then entry ∷ entries_by pass entries else entries_by pass entries
+
+-- an ask in flight is of a question of the session whose event hasn't happened
+pub record IsUnanswered (session : Session) (standing : Standing) (event : ℕ) : Type 0 where
+  pub ask : Ask
+  pub asked : question session.phrase session.root session.nonce event ≡ Some ask
+  pub number : ask.event ≡ event
+  pub lacking : Contains standing.trace event → ⊥
 
 -- what a pass that asks for a block makes of a standing: the ask of an event of that block, which is a
 -- question of the session, hasn't happened and isn't in flight, is in flight, and nothing else happens

@@ -1,5 +1,5 @@
 -- How much a session holds at most, and what one that is done has (this project's own).
-use Rattle.std.specs.Prelude.{◌≡◌, ◌+◌, ◌≤◌, ◌↔◌, ℕ, List, [], ◌∷◌, length, Contains}
+use Rattle.std.specs.Prelude.{◌≡◌, ◌+◌, ◌≤◌, ◌↔◌, ℕ, Bool, true, false, List, [], ◌∷◌, length, Contains}
 use Rattle.phrase_tree.specs.Numbering.{event_count}
 use Rattle.evidence_types.specs.Evidence.{Evidence}
 use Rattle.bench_trait.specs.declared.ask.Ask.{Ask}
@@ -21,6 +21,22 @@ blocks_in (right_arm left_result inner last) = blocks_in inner
 blocks_in (both_arms i last left right ended) = 1 + (blocks_in left + blocks_in right)
 blocks_in (finished result) = 0
 
+abbrev pub one_if : Bool → ℕ
+one_if true = 1
+one_if false = 0
+
+-- how many of these have ended, and their results wait: replies, and results of right arms
+abbrev pub ended_in : Configuration → ℕ
+ended_in (todo phrase i before) = 0
+ended_in (asked form i before) = 0
+ended_in (posted asked_place i body before) = 0
+ended_in (remote asked_place i last inner ended) = one_if ended + ended_in inner
+ended_in (first inner right i) = ended_in inner
+ended_in (left_arm inner right i before last) = ended_in inner
+ended_in (right_arm left_result inner last) = ended_in inner
+ended_in (both_arms i last left right ended) = one_if ended + (ended_in left + ended_in right)
+ended_in (finished result) = 0
+
 -- the events of answers, and of questions
 abbrev pub events_answered : List (ℕ × List ℕ) → List ℕ
 events_answered [] = []
@@ -30,12 +46,12 @@ abbrev pub events_asked : List Ask → List ℕ
 events_asked [] = []
 events_asked (ask ∷ rest) = ask.event ∷ events_asked rest
 
--- what has happened, what is asked for and the blocks that are still to end in an event are together at
--- most the events of the phrase; no more requests wait than there are such blocks, and there are no more
--- answers than questions
+-- what has happened, what is asked for and the blocks whose results are still to be taken, each by an
+-- event, are together at most the events of the phrase; the requests and the results that wait are no
+-- more than such blocks, and there are no more answers than questions
 pub record HasRoom (session : Session) (standing : Standing) : Type 0 where
   pub events : length standing.trace + length standing.in_flight + blocks_in standing.configuration ≤ event_count session.phrase
-  pub requests : length standing.requests ≤ blocks_in standing.configuration
+  pub waiting : length standing.requests + ended_in standing.configuration ≤ blocks_in standing.configuration
   pub answers : length standing.answers ≤ length (session_questions session)
 
 -- each answer is for a question of its own whose event has happened

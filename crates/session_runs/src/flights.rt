@@ -3,11 +3,12 @@ ghost use Rattle.session_model.specs.Session.{Session};
 ghost use Rattle.session_runs.specs.Standing.{Block, ask, Entry, played, is_in_flight, Standing, next};
 ghost use Rattle.session_runs.specs.History.{standing_after};
 ghost use Rattle.session_runs.specs.Ordered.{AreApart};
-ghost use Rattle.session_runs.specs.Flights.{events_in_flight, HasNoResult, AsksQuestion};
+ghost use Rattle.session_runs.specs.Flights.{events_in_flight, HasNoResult, entries_by, IsUnanswered, AsksQuestion};
 
 /// The law of flights: after every history each event is in flight at most once, so that one pass asked
-/// for it; and an ask in flight is so after each longer history whose further entries hold no result of
-/// its pass for its event. The entries of other passes are none.
+/// for it; it is of a question of the session, and hasn't happened. An ask in flight is so after each
+/// longer history whose further entries hold no result of its pass for its event, and whether they do
+/// is said by that pass's own entries among them alone.
 pub fn flight_law()
     ensures once { (session : Session) (keys : List (List ℕ × List ℕ)) (history : List Entry) (standing : Standing) →
         standing_after session keys history ≡ Some standing →
@@ -17,12 +18,18 @@ pub fn flight_law()
         is_in_flight standing.in_flight pass event ≡ true →
         is_in_flight standing.in_flight other event ≡ true →
         pass ≡ other }
+    ensures unanswered { (session : Session) (keys : List (List ℕ × List ℕ)) (history : List Entry) (standing : Standing) (pass event : ℕ) →
+        standing_after session keys history ≡ Some standing →
+        is_in_flight standing.in_flight pass event ≡ true →
+        IsUnanswered session standing event }
     ensures stays { (session : Session) (keys : List (List ℕ × List ℕ)) (history more : List Entry) (standing later : Standing) (pass event : ℕ) →
         standing_after session keys history ≡ Some standing →
         is_in_flight standing.in_flight pass event ≡ true →
         standing_after session keys (history ++ more) ≡ Some later →
         HasNoResult pass event more →
         is_in_flight later.in_flight pass event ≡ true }
+    ensures own { (pass event : ℕ) (entries : List Entry) →
+        HasNoResult pass event (entries_by pass entries) → HasNoResult pass event entries }
 {}
 
 /// The law of asks: a move that asks is of an event of its block, which hasn't happened and isn't in

@@ -5,9 +5,10 @@ ghost use Rattle.session_runs.specs.Standing.{Entry, is_done, Standing};
 ghost use Rattle.session_runs.specs.History.{standing_after};
 ghost use Rattle.session_runs.specs.Room.{HasRoom, AreAnswersSoFar, IsAllDone};
 
-/// The law of room: after every history the events that happened, the asks in flight and the blocks that
-/// are still to end in an event are together at most the events of the phrase; no more requests wait
-/// than there are such blocks; and each answer is for a question of its own, whose event has happened.
+/// The law of room: after every history the events that happened, the asks in flight and the blocks whose
+/// results are still to be taken are together at most the events of the phrase; the requests that wait
+/// and the results that wait are no more than such blocks; and each answer is for a question of its
+/// own, whose event has happened.
 pub fn room_law()
     ensures room { (session : Session) (keys : List (List ℕ × List ℕ)) (history : List Entry) (standing : Standing) →
         standing_after session keys history ≡ Some standing →

@@ -1,4 +1,5 @@
 mod WorkedBlocks
+mod WorkedQuestions
 pub mod Starting
 pub mod Fitting
 pub mod Deeds
@@ -16,3 +17,4 @@ pub mod Agenda
 pub mod Freshness
 pub mod LightBlocks
 pub mod TouchBlocks
+pub mod Questions

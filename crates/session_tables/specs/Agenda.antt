@@ -1,39 +1,15 @@
 -- Lists of what can come next, as they are kept in rising order (this project's own).
-use Rattle.std.specs.Prelude.{◌≡◌, ◌<◌, ◌↔◌, ℕ, List, [], ◌∷◌, ◌++◌, Option, None, Some, Contains}
+use Rattle.std.specs.Prelude.{◌≡◌, ◌↔◌, ℕ, List, [], ◌∷◌, ◌++◌, Some, Contains}
 use Rattle.evidence_types.specs.Evidence.{Evidence}
 use Rattle.machine_tables.specs.Tables.{Tables, next_of}
 use Rattle.session_runs.specs.Standing.{Move, deliver}
-use Rattle.session_runs.specs.MoveOrder.{Ready, rank, moves_by}
+use Rattle.session_runs.specs.MoveOrder.{Ready, moves_by}
+use Rattle.session_runs.specs.Ordered.{Rise, rank_of, event_of_ask, IsSilent, IsOfEvent}
 use Rattle.session_tables.specs.Shown.{pass_of}
-
--- each is above a bound by its key
-abbrev pub AreAbove : (A : Type 0) → (A → ℕ) → ℕ → List A → Type 0
-AreAbove A key bound [] = Unit {0}
-AreAbove A key bound (one ∷ rest) = (bound < key one) × AreAbove A key bound rest
-
--- they rise strictly by their keys
-abbrev pub Rise : (A : Type 0) → (A → ℕ) → List A → Type 0
-Rise A key [] = Unit {0}
-Rise A key (one ∷ rest) = AreAbove A key (key one) rest × Rise A key rest
-
--- by what a move is listed, and an ask
-abbrev pub rank_of : Ready → ℕ
-rank_of ready = rank ready.block ready.event
-
-abbrev pub event_of_ask : ℕ × ℕ → ℕ
-event_of_ask asked = asked.0
 
 -- it is what its block can do next
 abbrev pub IsNext : Tables → Ready → Type 0
 IsNext tables ready = next_of tables ready.block ≡ Some (ready.step, ready.event)
-
-abbrev pub IsSilent : Option ℕ → Type 0
-IsSilent None = Unit {0}
-IsSilent (Some event) = ⊥
-
-abbrev pub IsOfEvent : Option ℕ → Type 0
-IsOfEvent None = ⊥
-IsOfEvent (Some event) = Unit {0}
 
 -- what the blocks can do next, in two rising lists: without an event by the block, and by the event
 pub record IsAgenda (tables : Tables) (silent events : List Ready) : Type 0 where

@@ -4,3 +4,4 @@ pub mod Shown
 pub mod Agenda
 pub mod NextFits
 pub mod TouchedAt
+pub mod Questions

@@ -1,4 +1,5 @@
 ghost use Rattle.std.specs.Prelude.{◌≡◌, ◌↔◌, ℕ, Bool, List, ◌∷◌, Some, Contains};
+ghost use Rattle.std.specs.List.{AllByRecursion};
 ghost use Rattle.machine_tables.specs.Row.{Local};
 ghost use Rattle.machine_tables.specs.Tables.{not_started, running, Tables, place_in, forks, act, next_of, step_tables, tables_after};
 ghost use Rattle.evidence_types.specs.Evidence.{Evidence, nonce};
@@ -10,6 +11,7 @@ ghost use Rattle.session_runs.specs.History.{standing_after};
 ghost use Rattle.session_runs.specs.MoveOrder.{Ready, ready_of, possible_moves, asks_in_order};
 ghost use Rattle.session_tables.specs.Shown.{IsShown, AreShown};
 ghost use Rattle.session_tables.specs.Agenda.{IsAgenda, listed_moves, AreAsked};
+ghost use Rattle.session_tables.specs.Questions.{AsksItsQuestion};
 
 /// The law of entries: if the tables of a session's machines show how the session stands, they take an
 /// entry exactly when the session can, and show how it stands then: its events, answers, requests and
@@ -78,4 +80,12 @@ pub fn start_law()
         local
         ≡ Some (happens number, forks number before, after) →
         tables.blocks (of number) ≡ not_started }
+{}
+
+/// The law of questions: in the program of a session's phrase, each instruction that measures is for an
+/// event whose question is that of the block's place and of the instruction's measurement.
+pub fn question_law()
+    ensures { (session : Session) → AllByRecursion
+        (λ one. AllByRecursion (AsksItsQuestion session one.place) one.code)
+        (program_of session.phrase session.root) }
 {}

@@ -9,6 +9,6 @@ mod light;
 mod tests;
 mod touches;
 
-pub use laws::{agenda_law, entry_law, ready_law, start_law, tables_law};
+pub use laws::{agenda_law, entry_law, question_law, ready_law, start_law, tables_law};
 pub use light::fits_law;
 pub use touches::touches_law;

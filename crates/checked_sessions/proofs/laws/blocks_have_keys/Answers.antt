@@ -2,7 +2,7 @@ use Rattle.std.proofs.Common.{is_some}
 use Rattle.phrase_tree.specs.Term.{term}
 use Rattle.seal_hmac.specs.Keys.{key_of}
 use Rattle.place_check.specs.Places.{keys_of}
-use Rattle.copland_cli.proofs.session.blocks_have_keys.Goals as goal
+use Rattle.checked_sessions.proofs.laws.blocks_have_keys.Goals as goal
 
 pub returns : goal.returns
 returns c =
