@@ -11,12 +11,12 @@ mod input;
 mod job_tests;
 mod laws;
 mod outcome;
-mod record;
 #[cfg(test)]
 mod refusal_tests;
-mod report;
 mod session;
 mod status;
+#[cfg(test)]
+mod test_runs;
 #[cfg(test)]
 mod tests;
 mod top;
