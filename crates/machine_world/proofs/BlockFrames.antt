@@ -1,12 +1,11 @@
 -- The index of a block is the first of its name, and what is put there is that block's alone.
-use Rattle.std.proofs.Common.{◌≡◌, ℕ, zero, suc, ◌+◌, ◌<◌, ◌≤◌, true, false, List, [], ◌∷◌, length, slice_index_or, slice_set, nat_eq, if◌then◌else◌, refl, sym, ap, ◌∙◌, subst, arith, inl, inr}
+use Rattle.std.proofs.Common.{◌≡◌, ℕ, zero, suc, ◌<◌, ◌≤◌, true, false, List, [], ◌∷◌, length, slice_index_or, slice_set, if◌then◌else◌, refl, ap, subst, arith}
 use Rattle.std.proofs.lemmas.Bool.{eqb-true, eq-eqb, ne_eqb}
 use Rattle.avm_code.specs.declared.instr.BlockName.{BlockName}
 use Rattle.avm_code.specs.declared.instr.BlockName.TheVariants.{Root, Of}
 use Rattle.avm_code.specs.declared.program.Block.{Block}
 use Rattle.avm_code.specs.Order.{IsWithin, number_after, NamesRise, RootComesFirst, IsInOrder, IsAt}
 use Rattle.branch_join.specs.Blocks.{is_same}
-use Rattle.machine_world.specs.Named.{at_name, IsIndex}
 use Rattle.machine_world.specs.Seen.{names_of, IsBlock, of_block}
 use Rattle.machine_world.proofs.NamedLemmas.{name-get, name-set}
 
@@ -16,7 +15,7 @@ same_block Root (Of other) e = cc
 same_block (Of number) Root e = cc
 same_block (Of number) (Of other) e = ap Of (eqb-true number other e)
 
-its_own : (name : BlockName) → is_same name name ≡ true
+pub its_own : (name : BlockName) → is_same name name ≡ true
 its_own Root = refl
 its_own (Of number) = eq-eqb number number refl
 

@@ -1,5 +1,5 @@
 -- The mail on values: what each change of it leaves, and that later values change nothing.
-use Rattle.std.proofs.Common.{◌≡◌, ℕ, zero, suc, ◌<◌, ◌≤◌, Bool, true, false, List, [], ◌∷◌, ◌++◌, Option, None, Some, IsSome, map, length, drop, slice_index_or, slice_set, nat_eq, if◌then◌else◌, refl, sym, ap, ap₂, ◌∙◌, subst, arith, inl, inr}
+use Rattle.std.proofs.Common.{◌≡◌, ℕ, ◌<◌, Bool, true, false, List, [], ◌∷◌, ◌++◌, Option, None, Some, length, drop, slice_set, nat_eq, if◌then◌else◌, refl, sym, ap, ap₂, ◌∙◌, arith, inl, inr}
 use Rattle.std.specs.Option.{option_map}
 use Rattle.std.specs.Cmp.Lexicographic.{pointwise}
 use Rattle.std.proofs.lemmas.Bool.{cases_eq, eq-eqb, ne_eqb}
@@ -15,10 +15,10 @@ use Rattle.machine_world.specs.Seen.{request_value, requests_on, list_at, IsPlac
 
 -- ---- the lists by place
 
-same_place : (name place : List ℕ) → pointwise nat_eq name place ≡ true → name ≡ place
+pub same_place : (name place : List ℕ) → pointwise nat_eq name place ≡ true → name ≡ place
 same_place name place e = (bytes_eq-Decides name place).0 e
 
-list-get : (names : List (List ℕ)) (lists : List (List Request)) (place : List ℕ) (index : ℕ) → IsPlace names place index → index < length lists → list_at names lists place ≡ waiting_at index lists
+pub list-get : (names : List (List ℕ)) (lists : List (List Request)) (place : List ℕ) (index : ℕ) → IsPlace names place index → index < length lists → list_at names lists place ≡ waiting_at index lists
 list-get names lists place index at h = name-get (pointwise nat_eq) [] names lists place index at h
 
 list-set : (names : List (List ℕ)) (lists : List (List Request)) (place : List ℕ) (index : ℕ) (now : List Request) (other : List ℕ) → IsPlace names place index → index < length lists
@@ -87,7 +87,7 @@ list-below count (name ∷ names) (list ∷ lists) place b =
 pub mail-grows : (old new : List Evidence) (names : List (List ℕ)) (lists : List (List Request)) (place : List ℕ) → Grows old new → ListsBelow (length old) lists → requests_at new names lists place ≡ requests_at old names lists place
 mail-grows old new names lists place g b = requests-grow old new (list_at names lists place) g (list-below (length old) names lists place b)
 
-found-below : (count number id : ℕ) (answers : List (ℕ × ℕ)) → RepliesBelow count answers → find number answers ≡ Some id → id < count
+pub found-below : (count number id : ℕ) (answers : List (ℕ × ℕ)) → RepliesBelow count answers → find number answers ≡ Some id → id < count
 found-below count number id [] b e = none_some e
   where
     none_some : {P : Type 0} → None ≡ Some id → P
