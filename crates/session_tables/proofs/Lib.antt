@@ -1,4 +1,5 @@
 mod WorkedBlocks
+mod WorkedFits
 pub mod Starting
 pub mod Fitting
 pub mod Deeds

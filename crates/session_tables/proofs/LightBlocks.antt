@@ -1,6 +1,6 @@
 -- In a session of a light phrase, what the next instruction of each block makes fits a bundle.
 use Rattle.std.proofs.Common.{◌≡◌, ℕ, ◌+◌, ◌≤◌, ◌<◌, ◌⊎◌, inl, inr, List, [], ◌∷◌, length, refl, sym, ◌∙◌, ap, subst, arith}
-use Rattle.std.specs.Prelude.{Bool, true, false, Option, None, Some, nat_eq, if◌then◌else◌}
+use Rattle.std.specs.Prelude.{Bool, true, false, None, Some, nat_eq, if◌then◌else◌}
 use Rattle.std.proofs.lemmas.Bool.{cases_eq}
 use Rattle.phrase_tree.specs.Term.{Leaf, cpy, sig, hsh, nul, usm, kim, is_measurement, Term, leaf, at, chain, seq, par}
 use Rattle.phrase_tree.specs.Numbering.{event_count}
@@ -23,7 +23,7 @@ use Rattle.session_runs.specs.History.{standing_after}
 use Rattle.session_runs.specs.Light.{WhereFinished, AllMade, AllValues, AreShort}
 use Rattle.session_runs.proofs.LightLaws.{history_light}
 use Rattle.session_tables.specs.Left.{code_left, held, stack_left, told_or, Left, left_of}
-use Rattle.session_tables.specs.Found.{View, unseen, asks_for, waits, runs, replied, joinable, seen_or, result_in, block_view, found, found_block}
+use Rattle.session_tables.specs.Found.{View, unseen, asks_for, waits, runs, replied, joinable, seen_or, result_in, block_view, found}
 use Rattle.session_tables.specs.Shown.{Holds, RunsOn, Stands, asker_in, asker_of, IsMadeOf, IsShown}
 use Rattle.session_tables.specs.NextFits.{JoinFits, NextFits, Measures, FirstMeasures, IsAsking}
 use Rattle.session_tables.proofs.Starting.{going_or}
