@@ -1,5 +1,5 @@
 -- Schedules by tables that agree with the results so far, and by the events that fail.
-use Rattle.std.proofs.Common.{◌≡◌, ℕ, zero, suc, ◌+◌, ◌-◌, inl, inr, List, [], ◌∷◌, refl, sym, ◌∙◌, ap, subst, arith}
+use Rattle.std.proofs.Common.{◌≡◌, ℕ, zero, suc, ◌+◌, ◌≤◌, ◌-◌, inl, inr, List, [], ◌∷◌, refl, sym, ◌∙◌, ap, subst, arith}
 use Rattle.std.specs.Prelude.{Bool, true, false, Option, None, Some, Result, Ok, Err, nat_eq, if◌then◌else◌}
 use Rattle.std.proofs.lemmas.Bool.{cases_lt, eq-eqb, eqb-true, ne_eqb}
 use Rattle.bench_trait.specs.declared.bench.BenchFault.TheVariants.{NoArtefact}
@@ -10,8 +10,10 @@ use Rattle.session_runs.specs.Standing.{Entry, opened, played, answered, failed,
 use Rattle.session_runs.specs.MoveOrder.{possible_moves}
 use Rattle.session_runs.specs.Schedule.{Walked, result_entry, is_running, is_starving, open_count, one_starves, Round, one_round, rounds, entries_at_most, begun, after_rounds, scheduled}
 use Rattle.session_runs.specs.Played.{AskOnly, AreWalked, AllWalked, ArePlayed, AreOver}
+use Rattle.session_runs.specs.Results.{results_of, AgreeSoFar}
 use Rattle.session_runs.specs.ByFaults.{traces_of, failed_event, faults_of, failing_at, by_faults, scheduled_traces, AreOfOneKind}
-use Rattle.session_runs.proofs.ScheduleLaws.{fine_all, schedule_ends, clash}
+use Rattle.session_runs.proofs.ScheduleLaws.{AreFine, fine_all, fine_played, round_moves, some_open, schedule_ends, clash}
+use Rattle.session_runs.proofs.RestLaws.{same_one}
 use Rattle.session_runs.proofs.BareLaws.{bare_state, bare_standing, bare_entry, bare_next, next_alike, moves_alike}
 use Rattle.session_runs.proofs.SameSchedules.{IsLikeness, EachEntry, EachHistory, LikeHistory, LikeWalked, LikeAll, LikeRound, Suits, SuitsAt, opened_like, rounds_like}
 use Rattle.session_runs.proofs.OneResult.{FitsState, history_one}
@@ -80,6 +82,45 @@ begun_like places keys others Like LikeEntry like sessions number = record { all
 pub same_rounds : (places : List (List ℕ)) (keys : List (List ℕ × List ℕ)) (results others : ℕ → ℕ → Result (List ℕ) MeasureError) (sessions : List Session) (number count : ℕ) → AskOnly places sessions → AllWalked others 0 (after_rounds places keys results sessions number count).all → after_rounds places keys others sessions number count ≡ after_rounds places keys results sessions number count
 same_rounds places keys results others sessions number count only w =
     sym (round_is places keys (after_rounds places keys results sessions number count) (after_rounds places keys others sessions number count) (rounds_like places keys keys (λ s t. s ≡ t) (λ entry other. entry ≡ other) (same_likeness places keys) results others sessions only count (begun sessions number) (begun sessions number) (fine_all keys results 0 sessions) (begun_like places keys keys (λ s t. s ≡ t) (λ entry other. entry ≡ other) (same_likeness places keys) sessions number) (agree_suit places keys others 0 (after_rounds places keys results sessions number count).all w)))
+
+-- after so many rounds the sessions have histories with these results
+module _ (places : List (List ℕ)) (keys : List (List ℕ × List ℕ)) (results : ℕ → ℕ → Result (List ℕ) MeasureError) (sessions : List Session) (only : AskOnly places sessions) where
+  fine_rounds : (more : ℕ) (round : Round) → AreFine keys results 0 sessions round.all → AreFine keys results 0 sessions (rounds places keys results more round).all
+  fine_rounds zero round fine = fine
+  fine_rounds (suc more) round fine =
+      by_open (nat_eq (open_count round.all) 0) refl (one_starves round.all) (λ next_round f. fine_rounds more next_round f)
+    where
+      by_open : (b : Bool) → nat_eq (open_count round.all) 0 ≡ b → (c : Bool) → ((next_round : Round) → AreFine keys results 0 sessions next_round.all → AreFine keys results 0 sessions (rounds places keys results more next_round).all) → AreFine keys results 0 sessions (let r : Round = elim b [ true ↦ round | false ↦ elim c [ true ↦ round | false ↦ rounds places keys results more (one_round places keys results round) ] ] in r.all)
+      by_open true is c go = fine
+      by_open false is true go = fine
+      by_open false is false go =
+          go (one_round places keys results round) (round_moves places keys results sessions only round fine (some_open places keys results sessions only (open_count round.all) is)).0
+
+pub rounds_played : (places : List (List ℕ)) (keys : List (List ℕ × List ℕ)) (results : ℕ → ℕ → Result (List ℕ) MeasureError) (sessions : List Session) (number count : ℕ) → AskOnly places sessions → ArePlayed keys results 0 sessions (after_rounds places keys results sessions number count).all
+rounds_played places keys results sessions number count only =
+    fine_played keys results 0 sessions (after_rounds places keys results sessions number count).all (fine_rounds places keys results sessions only count (begun sessions number) (fine_all keys results 0 sessions))
+
+-- a table that agrees wherever a result stands agrees with the histories
+agree_here : (results others : ℕ → Result (List ℕ) MeasureError) (entries : List Entry) → ((event : ℕ) → 1 ≤ results_of event entries → others event ≡ results event) → AreWalked results entries → AreWalked others entries
+agree_here results others [] f w = tt
+agree_here results others (opened ∷ entries) f w = (tt, agree_here results others entries f w.1)
+agree_here results others (played pass move ∷ entries) f w = (w.0, agree_here results others entries f w.1)
+agree_here results others (answered pass event bytes ∷ entries) f w =
+    ((w.0.0, f event (omega (arith, same_one event event refl)) ∙ w.0.1), agree_here results others entries (λ n h. f n (omega (arith, h))) w.1)
+agree_here results others (failed pass event fault ∷ entries) f w =
+    ((w.0.0, f event (omega (arith, same_one event event refl)) ∙ w.0.1), agree_here results others entries (λ n h. f n (omega (arith, h))) w.1)
+agree_here results others (starved pass event ∷ entries) f w =
+    ((w.0.0, f event (omega (arith, same_one event event refl)) ∙ w.0.1), agree_here results others entries (λ n h. f n (omega (arith, h))) w.1)
+
+agree_all : (keys : List (List ℕ × List ℕ)) (results others : ℕ → ℕ → Result (List ℕ) MeasureError) (number : ℕ) (sessions : List Session) (all : List Walked) → AgreeSoFar results others number all → ArePlayed keys results number sessions all → AllWalked others number all
+agree_all keys results others number sessions [] a p = tt
+agree_all keys results others number [] (walked ∷ all) a p = absurd p
+agree_all keys results others number (session ∷ sessions) (walked ∷ all) a p =
+    (agree_here (results number) (others number) walked.history a.0 p.0.entries, agree_all keys results others (number + 1) sessions all a.1 p.1)
+
+pub agreeing_rounds : (places : List (List ℕ)) (keys : List (List ℕ × List ℕ)) (results others : ℕ → ℕ → Result (List ℕ) MeasureError) (sessions : List Session) (number count : ℕ) → AskOnly places sessions → AgreeSoFar results others 0 (after_rounds places keys results sessions number count).all → after_rounds places keys others sessions number count ≡ after_rounds places keys results sessions number count
+agreeing_rounds places keys results others sessions number count only a =
+    same_rounds places keys results others sessions number count only (agree_all keys results others 0 sessions (after_rounds places keys results sessions number count).all a (rounds_played places keys results sessions number count only))
 
 module _ (places : List (List ℕ)) (keys : List (List ℕ × List ℕ)) (results : ℕ → ℕ → Result (List ℕ) MeasureError) where
   -- a round that is over stays

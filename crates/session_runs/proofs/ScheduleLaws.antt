@@ -232,7 +232,7 @@ pub fine_all : (keys : List (List ℕ × List ℕ)) (results : ℕ → ℕ → R
 fine_all keys results number [] = tt
 fine_all keys results number (session ∷ sessions) = (fine_opened keys (results number) session, fine_all keys results (number + 1) sessions)
 
-fine_played : (keys : List (List ℕ × List ℕ)) (results : ℕ → ℕ → Result (List ℕ) MeasureError) (number : ℕ) (sessions : List Session) (all : List Walked) → AreFine keys results number sessions all → ArePlayed keys results number sessions all
+pub fine_played : (keys : List (List ℕ × List ℕ)) (results : ℕ → ℕ → Result (List ℕ) MeasureError) (number : ℕ) (sessions : List Session) (all : List Walked) → AreFine keys results number sessions all → ArePlayed keys results number sessions all
 fine_played keys results number [] [] f = tt
 fine_played keys results number [] (walked ∷ all) f = f
 fine_played keys results number (session ∷ sessions) [] f = f

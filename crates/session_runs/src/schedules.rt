@@ -4,19 +4,27 @@ ghost use Rattle.session_model.specs.Session.{Session};
 ghost use Rattle.session_runs.specs.Standing.{Entry, is_open, is_in_flight, Standing};
 ghost use Rattle.session_runs.specs.History.{standing_after};
 ghost use Rattle.session_runs.specs.Schedule.{one_starves, rounds, after_rounds, scheduled};
-ghost use Rattle.session_runs.specs.Played.{AskOnly, AllWalked, AreOver};
-ghost use Rattle.session_runs.specs.Results.{results_of};
+ghost use Rattle.session_runs.specs.Played.{AskOnly, AllWalked, ArePlayed, AreOver};
+ghost use Rattle.session_runs.specs.Results.{results_of, AgreeSoFar};
 ghost use Rattle.session_runs.specs.ByFaults.{traces_of, faults_of, scheduled_traces, AreOfOneKind};
 
 /// The law of rounds, for a loop that measures as it goes: the first rounds of a schedule are the same
-/// with every table of results that agrees with the results which stand in the histories by then; one
-/// round more is one round on; and as soon as no session is open or one is starved, the sessions are as
-/// the schedule plays them.
+/// with every table that has the results which stand in the histories by then, and so with every table
+/// that agrees with the first one wherever a result stands; the sessions have histories that they can
+/// have with these results; one round more is one round on; and as soon as no session is open or one is
+/// starved, the sessions are as the schedule plays them.
 pub fn rounds_law()
     ensures table { (places : List (List ℕ)) (keys : List (List ℕ × List ℕ)) (results others : ℕ → ℕ → Result (List ℕ) MeasureError) (sessions : List Session) (number count : ℕ) →
         AskOnly places sessions →
         AllWalked others 0 (after_rounds places keys results sessions number count).all →
         after_rounds places keys others sessions number count ≡ after_rounds places keys results sessions number count }
+    ensures agree { (places : List (List ℕ)) (keys : List (List ℕ × List ℕ)) (results others : ℕ → ℕ → Result (List ℕ) MeasureError) (sessions : List Session) (number count : ℕ) →
+        AskOnly places sessions →
+        AgreeSoFar results others 0 (after_rounds places keys results sessions number count).all →
+        after_rounds places keys others sessions number count ≡ after_rounds places keys results sessions number count }
+    ensures played { (places : List (List ℕ)) (keys : List (List ℕ × List ℕ)) (results : ℕ → ℕ → Result (List ℕ) MeasureError) (sessions : List Session) (number count : ℕ) →
+        AskOnly places sessions →
+        ArePlayed keys results 0 sessions (after_rounds places keys results sessions number count).all }
     ensures more { (places : List (List ℕ)) (keys : List (List ℕ × List ℕ)) (results : ℕ → ℕ → Result (List ℕ) MeasureError) (sessions : List Session) (number count : ℕ) →
         after_rounds places keys results sessions number (count + 1)
         ≡ rounds places keys results 1 (after_rounds places keys results sessions number count) }

@@ -1,5 +1,6 @@
 mod WorkedBlocks
 mod WorkedQuestions
+mod WorkedFits
 pub mod Starting
 pub mod Fitting
 pub mod Deeds

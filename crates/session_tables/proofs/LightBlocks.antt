@@ -1,6 +1,6 @@
 -- In a session of a light phrase, what the next instruction of each block makes fits a bundle.
 use Rattle.std.proofs.Common.{◌≡◌, ℕ, ◌+◌, ◌≤◌, ◌<◌, ◌⊎◌, inl, inr, List, [], ◌∷◌, length, refl, sym, ◌∙◌, ap, subst, arith}
-use Rattle.std.specs.Prelude.{Bool, true, false, Option, None, Some, nat_eq, if◌then◌else◌}
+use Rattle.std.specs.Prelude.{Bool, true, false, None, Some, nat_eq, if◌then◌else◌}
 use Rattle.std.proofs.lemmas.Bool.{cases_eq}
 use Rattle.phrase_tree.specs.Term.{Leaf, cpy, sig, hsh, nul, usm, kim, is_measurement, Term, leaf, at, chain, seq, par}
 use Rattle.phrase_tree.specs.Numbering.{event_count}
@@ -11,11 +11,11 @@ use Rattle.evidence_types.specs.Measure.{IsLight}
 use Rattle.session_model.specs.Session.{Session}
 use Rattle.session_model.specs.Value.{Makings}
 use Rattle.avm_code.specs.declared.instr.Instr.{Instr}
-use Rattle.avm_code.specs.declared.instr.Instr.TheVariants.{Swap, JoinSeq, JoinPar, End}
+use Rattle.avm_code.specs.declared.instr.Instr.TheVariants.{Copy, Usm, Kim, Sign, Hash, Null, Split, Swap, JoinSeq, Send, Recv, Fork, JoinPar, End}
 use Rattle.avm_code.specs.declared.program.Block.{Block as CodeBlock}
 use Rattle.avm_code.specs.Blocks.{place_named}
 use Rattle.avm_compile.specs.Program.{program_of, leaf_instr, code_of}
-use Rattle.machine_tables.specs.Row.{Setting, Local}
+use Rattle.machine_tables.specs.Row.{Setting, Local, measured}
 use Rattle.machine_tables.specs.Tables.{BlockState, not_started, running, over, Tables, place_in, result_of}
 use Rattle.session_runs.specs.Configuration.{Configuration, todo, asked, posted, remote, first, left_arm, right_arm, both_arms, finished, measurement}
 use Rattle.session_runs.specs.Standing.{Block, root, of, Entry, is_open, Standing, makings}
@@ -23,9 +23,9 @@ use Rattle.session_runs.specs.History.{standing_after}
 use Rattle.session_runs.specs.Light.{WhereFinished, AllMade, AllValues, AreShort}
 use Rattle.session_runs.proofs.LightLaws.{history_light}
 use Rattle.session_tables.specs.Left.{code_left, held, stack_left, told_or, Left, left_of}
-use Rattle.session_tables.specs.Found.{View, unseen, asks_for, waits, runs, replied, joinable, seen_or, result_in, block_view, found, found_block}
+use Rattle.session_tables.specs.Found.{View, unseen, asks_for, waits, runs, replied, joinable, seen_or, result_in, block_view, found}
 use Rattle.session_tables.specs.Shown.{Holds, RunsOn, Stands, asker_in, asker_of, IsMadeOf, IsShown}
-use Rattle.session_tables.specs.NextFits.{JoinFits, NextFits, Measures, FirstMeasures, IsAsking}
+use Rattle.session_tables.specs.NextFits.{JoinFits, AnswerFits, NextFits, Measures, FirstMeasures, IsAsking}
 use Rattle.session_tables.proofs.Starting.{going_or}
 use Rattle.session_tables.proofs.Fitting.{IsOver, Fits, SessionFits, fits_after_history, if_other, if_same, seen_or_none, outside}
 use Rattle.session_tables.proofs.Frames.{spot}
@@ -262,3 +262,27 @@ asking_shown session keys history s t n pass name e still shown is =
     by_answer (by_lower m asker l) =
         subst (λ x. IsAsking n (t.blocks x)) (sym asker)
         (asking_state t n (t.blocks (of m)) l.for_request l.was (l.now []) [] (l.goes_on []) (subst (λ v. Stands v (t.blocks (of m))) l.block_was (cells.blocks (of m))))
+
+-- what an answer makes of the measurement that it is for
+answer_fits : (n : ℕ) (instr : Instr) (l : Local) (bytes : List ℕ) → Measures n instr → AnswerFits instr l → FitsAnswer bytes → FitsBundle (measured instr bytes l.evidence)
+answer_fits n (Copy i) l bytes m a short = absurd m
+answer_fits n (Usm i asp) l bytes m a short = a bytes short
+answer_fits n (Kim i target asp) l bytes m a short = a bytes short
+answer_fits n (Sign i) l bytes m a short = absurd m
+answer_fits n (Hash i) l bytes m a short = absurd m
+answer_fits n (Null i) l bytes m a short = absurd m
+answer_fits n (Split i split) l bytes m a short = absurd m
+answer_fits n Swap l bytes m a short = absurd m
+answer_fits n (JoinSeq i) l bytes m a short = absurd m
+answer_fits n (Send i place) l bytes m a short = absurd m
+answer_fits n (Recv j i) l bytes m a short = absurd m
+answer_fits n (Fork i split) l bytes m a short = absurd m
+answer_fits n (JoinPar j i) l bytes m a short = absurd m
+answer_fits n End l bytes m a short = absurd m
+
+pub answered_fits : (session : Session) (keys : List (List ℕ × List ℕ)) (history : List Entry) (s : Standing) (t : Tables) (n pass : ℕ) (name : Block) (flag : Bool) (l : Local) (instr : Instr) (rest : List Instr) (bytes : List ℕ) → IsLight session.phrase → length session.nonce ≡ 16 → AreShort history → standing_after session keys history ≡ Some s → s.state ≡ is_open → IsShown t s → t.in_flight n ≡ Some (pass, name) → t.blocks name ≡ running flag l → l.rest ≡ instr ∷ rest → FitsAnswer bytes → FitsBundle (measured instr bytes l.evidence)
+answered_fits session keys history s t n pass name flag l instr rest bytes light sixteen short e still shown flies runs_so code fits =
+    let asking : IsAsking n (t.blocks name) = asking_shown session keys history s t n pass name e still shown flies in
+    let first : FirstMeasures n l.rest = subst (λ x. IsAsking n x) runs_so asking in
+    let measures : Measures n instr = subst (λ xs. FirstMeasures n xs) code first in
+    answer_fits n instr l bytes measures (next_fits session keys history s t name flag l instr rest light sixteen short e still shown runs_so code).answer fits

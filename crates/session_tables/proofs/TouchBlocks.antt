@@ -1,24 +1,24 @@
 -- What a possible move touches is what the next instruction of its block does.
-use Rattle.std.proofs.Common.{◌≡◌, ℕ, ◌+◌, ◌≤◌, ◌<◌, ◌⊎◌, inl, inr, List, [], ◌∷◌, refl, sym, ◌∙◌, ap, subst, arith}
+use Rattle.std.proofs.Common.{◌≡◌, ℕ, ◌+◌, ◌≤◌, inl, inr, List, [], ◌∷◌, refl, sym, ◌∙◌, ap, subst, arith}
 use Rattle.std.specs.Prelude.{Bool, true, false, Option, None, Some, nat_eq, if◌then◌else◌}
 use Rattle.std.proofs.lemmas.Bool.{cases_lt, cases_eq}
-use Rattle.phrase_tree.specs.Term.{Leaf, cpy, sig, hsh, nul, usm, kim, Term, leaf, at, chain, seq, par}
+use Rattle.phrase_tree.specs.Term.{cpy, sig, hsh, nul, usm, kim, Term, leaf, at, chain, seq, par}
 use Rattle.phrase_tree.specs.Numbering.{event_count}
 use Rattle.evidence_types.specs.Evidence.{Evidence}
 use Rattle.session_model.specs.Session.{Session}
 use Rattle.session_model.specs.Value.{Makings}
 use Rattle.avm_code.specs.declared.instr.Instr.{Instr}
-use Rattle.avm_code.specs.declared.instr.Instr.TheVariants.{Swap, JoinSeq, Recv, JoinPar, End}
+use Rattle.avm_code.specs.declared.instr.Instr.TheVariants.{Swap, JoinSeq, JoinPar, End}
 use Rattle.avm_code.specs.declared.program.Block.{Block as CodeBlock}
 use Rattle.avm_compile.specs.Program.{program_of, code_of}
 use Rattle.machine_tables.specs.Row.{Local}
 use Rattle.machine_tables.specs.Tables.{running, Tables}
 use Rattle.session_runs.specs.Configuration.{Configuration, todo, asked, posted, remote, first, left_arm, right_arm, both_arms, finished, once_finished}
 use Rattle.session_runs.specs.Moves.{run as run_step, in_block, Moved, inner_moves}
-use Rattle.session_runs.specs.Standing.{Block, root, of, run, deliver, Entry, played, State, is_open, Standing, makings, played_on, next}
+use Rattle.session_runs.specs.Standing.{Block, root, of, run, deliver, Entry, played, is_open, Standing, makings, played_on, next}
 use Rattle.session_runs.specs.History.{standing_after}
-use Rattle.session_runs.specs.Touches.{Touch, touches_nothing, sends_reply, needs_request, needs_reply, Touched, touching, sending, touched_or, touch_phrase, touch_own, touch_block, touch_inner, touch_front, touch_move, touched_while, touch_in, sent_in, touch_of, sent_by}
-use Rattle.session_runs.proofs.EntryLaws.{no_standing, once_finished_any, where_open_is}
+use Rattle.session_runs.specs.Touches.{touches_nothing, sends_reply, needs_request, needs_reply, Touched, touching, sending, touched_or, touch_phrase, touch_own, touch_block, touch_inner, touch_front, touch_move, touched_while, touch_in, sent_in, touch_of, sent_by}
+use Rattle.session_runs.proofs.EntryLaws.{once_finished_any, where_open_is}
 use Rattle.session_runs.proofs.TouchLaws.{Shows, shows_inner, run_is_there}
 use Rattle.session_tables.specs.Left.{code_left, held, stack_left, told_or, Left, left_of}
 use Rattle.session_tables.specs.Found.{View, unseen, asks_for, waits, runs, replied, joinable, seen_or, block_view, found}

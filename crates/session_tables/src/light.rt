@@ -1,8 +1,10 @@
 ghost use Rattle.std.specs.Prelude.{◌≡◌, ℕ, Bool, List, ◌∷◌, Some, length};
+ghost use Rattle.evidence_types.specs.Answer.{FitsAnswer};
+ghost use Rattle.evidence_types.specs.Bytes.{FitsBundle};
 ghost use Rattle.evidence_types.specs.Measure.{IsLight};
 ghost use Rattle.avm_code.specs.declared.instr.Instr.{Instr};
 ghost use Rattle.avm_compile.specs.Program.{program_of};
-ghost use Rattle.machine_tables.specs.Row.{Local};
+ghost use Rattle.machine_tables.specs.Row.{Local, measured};
 ghost use Rattle.machine_tables.specs.Tables.{running, Tables, place_in};
 ghost use Rattle.session_model.specs.Session.{Session};
 ghost use Rattle.session_runs.specs.Standing.{Block, Entry, is_open, Standing, makings};
@@ -13,7 +15,8 @@ ghost use Rattle.session_tables.specs.NextFits.{NextFits, IsAsking};
 
 /// The law of light blocks: while a session is open whose phrase is nowhere oversize, whose nonce has 16
 /// bytes and whose answers have at most 1,024, what the next instruction of each block makes fits a
-/// bundle; and the block that waits for an answer runs, and its next instruction is the measurement.
+/// bundle. The block that waits for an answer runs, and its next instruction is the measurement; so what
+/// every answer of at most 1,024 bytes makes there fits a bundle.
 pub fn fits_law()
     ensures made { (session : Session) (keys : List (List ℕ × List ℕ)) (history : List Entry) (standing : Standing) (tables : Tables) (name : Block) (for_request : Bool) (local : Local) (instr : Instr) (rest : List Instr) →
         IsLight session.phrase →
@@ -35,4 +38,16 @@ pub fn fits_law()
         IsShown tables standing →
         tables.in_flight event ≡ Some (pass, name) →
         IsAsking event (tables.blocks name) }
+    ensures answered { (session : Session) (keys : List (List ℕ × List ℕ)) (history : List Entry) (standing : Standing) (tables : Tables) (event pass : ℕ) (name : Block) (for_request : Bool) (local : Local) (instr : Instr) (rest : List Instr) (bytes : List ℕ) →
+        IsLight session.phrase →
+        length session.nonce ≡ 16 →
+        AreShort history →
+        standing_after session keys history ≡ Some standing →
+        standing.state ≡ is_open →
+        IsShown tables standing →
+        tables.in_flight event ≡ Some (pass, name) →
+        tables.blocks name ≡ running for_request local →
+        local.rest ≡ instr ∷ rest →
+        FitsAnswer bytes →
+        FitsBundle (measured instr bytes local.evidence) }
 {}
