@@ -8,6 +8,7 @@ mod flights;
 mod law_tests;
 mod laws;
 mod order;
+mod prefixes;
 mod room;
 #[cfg(test)]
 mod tests;
@@ -19,5 +20,6 @@ pub use laws::{
     record_law, result_law, rising_law, rising_record_law, schedule_law, trace_law,
 };
 pub use order::order_law;
+pub use prefixes::prefix_law;
 pub use room::{done_law, room_law};
 pub use wrong::wrong_histories;
