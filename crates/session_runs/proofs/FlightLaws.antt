@@ -133,7 +133,7 @@ module _ (session : Session) (keys : List (List ℕ × List ℕ)) (s : Standing)
   next_flies entry t e another = onward_flies entry t e another (onward Leaves session keys (leaves (makings session keys)) s entry t e).1
 
 -- a history in two parts
-further_parts : (session : Session) (keys : List (List ℕ × List ℕ)) (x : Option Standing) (entries more : List Entry) → further session keys x (entries ++ more) ≡ further session keys (further session keys x entries) more
+pub further_parts : (session : Session) (keys : List (List ℕ × List ℕ)) (x : Option Standing) (entries more : List Entry) → further session keys x (entries ++ more) ≡ further session keys (further session keys x entries) more
 further_parts session keys None entries more = refl
 further_parts session keys (Some s) [] more = refl
 further_parts session keys (Some s) (entry ∷ entries) more = further_parts session keys (next session keys s entry) entries more

@@ -25,6 +25,7 @@ pub mod OwnerLaws
 pub mod PlaceLaws
 pub mod HistoryLaws
 pub mod FlightLaws
+pub mod PrefixLaws
 pub mod OrderedLaws
 pub mod ScheduleLaws
 pub mod NextEvent

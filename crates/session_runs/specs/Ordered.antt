@@ -25,6 +25,7 @@ rank_of ready = rank ready.block ready.event
 abbrev pub event_of_ask : ℕ × ℕ → ℕ
 event_of_ask asked = asked.0
 
+-- a step is without an event, or of one
 abbrev pub IsSilent : Option ℕ → Type 0
 IsSilent None = Unit {0}
 IsSilent (Some event) = ⊥

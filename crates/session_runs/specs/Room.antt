@@ -21,6 +21,7 @@ blocks_in (right_arm left_result inner last) = blocks_in inner
 blocks_in (both_arms i last left right ended) = 1 + (blocks_in left + blocks_in right)
 blocks_in (finished result) = 0
 
+-- one where it holds, and else none
 abbrev pub one_if : Bool → ℕ
 one_if true = 1
 one_if false = 0

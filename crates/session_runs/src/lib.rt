@@ -9,6 +9,7 @@ mod law_tests;
 mod laws;
 mod light;
 mod order;
+mod prefixes;
 mod room;
 #[cfg(test)]
 mod schedule_tests;
@@ -25,6 +26,7 @@ pub use laws::{
 };
 pub use light::light_law;
 pub use order::order_law;
+pub use prefixes::prefix_law;
 pub use room::{done_law, room_law};
 pub use schedules::{fault_law, result_count_law, rounds_law};
 pub use touches::touch_law;
