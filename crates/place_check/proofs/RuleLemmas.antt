@@ -24,11 +24,6 @@ pub first-map : (number : ℕ) (rules : List PlaceKind) → option_map {U = ℕ 
 first-map number [] = refl
 first-map number (rule ∷ rest) = refl
 
--- a list without a first is empty
-pub first-is-none : (list : List (ℕ × PlaceKind)) → None ≡ first list → list ≡ []
-first-is-none [] h = refl
-first-is-none (fault ∷ rest) h = absurd cc
-
 pub faults-append : (places : List PlaceEntry) (front back : List Event) → faults_among places (front ++ back) ≡ faults_among places front ++ faults_among places back
 faults-append places [] back = refl
 faults-append places (event ∷ rest) back =
@@ -37,10 +32,6 @@ faults-append places (event ∷ rest) back =
 
 over_events : (places : List PlaceEntry) (front back : List Event) (answer : Option (ℕ × PlaceKind)) → answer ≡ first (faults_among places front ++ faults_among places back) → answer ≡ first (faults_among places (front ++ back))
 over_events places front back answer h = h ∙ ap (λ faults. first faults) (sym (faults-append places front back))
-
--- one event: the first rule that it breaks
-pub one-event : (places : List PlaceEntry) (happens : Event) (answer : Option (ℕ × PlaceKind)) → answer ≡ first (faults_at places happens) → answer ≡ first (faults_among places (happens ∷ []))
-one-event places happens answer h = h ∙ sym (ap (λ faults. first faults) (append-nil (faults_at places happens)))
 
 -- a chain: a rule that the left part breaks, or else the first that the right part breaks
 pub chain-left : (places : List PlaceEntry) (left right : Term) (place : List ℕ) (i : ℕ) (found : ℕ × PlaceKind) → Some found ≡ first (faults_among places (events_of left place i)) → Some found ≡ first (faults_among places (events_of (chain left right) place i))
@@ -68,11 +59,6 @@ branch-right places split left right place i answer h e =
     let front = events_of left place (i + 1) in
     let back = events_of right place (i + 1 + event_count left) in
     behind places (front ++ back) (event (i + 1 + event_count left + event_count right) joins place) answer refl (over_events places front back answer (first-none (faults_among places front) (faults_among places back) answer h e))
-
--- a request: a rule that it breaks itself, or else the first that its body breaks
-pub request-itself : (places : List PlaceEntry) (asked place : List ℕ) (body : Term) (i : ℕ) (found : ℕ × PlaceKind) → Some found ≡ option_map {U = ℕ × PlaceKind} (λ rule. (i, rule)) (first (broken_rules places place (requests asked))) → Some found ≡ first (faults_among places (events_of (at asked body) place i))
-request-itself places asked place body i found h =
-    first-some (faults_at places (event i (requests asked) place)) (faults_among places (events_of body asked (i + 1) ++ event (i + 1 + event_count body) (replies asked) place ∷ [])) found (h ∙ first-map i (broken_rules places place (requests asked)))
 
 pub request-body : (places : List PlaceEntry) (asked place : List ℕ) (body : Term) (i : ℕ) (answer : Option (ℕ × PlaceKind)) → None ≡ option_map {U = ℕ × PlaceKind} (λ rule. (i, rule)) (first (broken_rules places place (requests asked))) → answer ≡ first (faults_among places (events_of body asked (i + 1))) → answer ≡ first (faults_among places (events_of (at asked body) place i))
 request-body places asked place body i answer h e =
