@@ -2,8 +2,8 @@
 use Rattle.std.specs.Prelude.{◌≡◌, ◌≢◌, ◌≤◌, ◌↔◌, ◌⊎◌, ℕ, List, length, Some}
 use Rattle.phrase_reader.specs.declared.refusal.Kind.{Kind}
 use Rattle.place_check.specs.declared.entry.PlaceKind.{PlaceKind}
-use Rattle.job_values.specs.declared.place.FieldAt.{FieldAt}
-use Rattle.job_values.specs.declared.place.FieldKind.{FieldKind}
+use Rattle.job_values.specs.declared.path.FieldAt.{FieldAt}
+use Rattle.job_values.specs.declared.path.FieldKind.{FieldKind}
 use Rattle.evidence_codec.specs.declared.fault.BadKind.{BadKind}
 use Rattle.job_reader.specs.Finding.{Finding, IsFinding, JobView, accepted, refused}
 use Rattle.job_reader.specs.declared.refusal.JobError.TheVariants as errors

@@ -5,11 +5,11 @@ use Rattle.serde_json.specs.Data.{Data, Items, no_items, item}
 use Rattle.serde_json.specs.Find.{as_object, get}
 use Rattle.job_values.specs.declared.words.Field.{Field}
 use Rattle.job_values.specs.declared.words.Field.TheVariants as fields
-use Rattle.job_values.specs.declared.place.Section.{Section}
-use Rattle.job_values.specs.declared.place.Section.TheVariants as sections
-use Rattle.job_values.specs.declared.place.FieldAt.{FieldAt}
-use Rattle.job_values.specs.declared.place.FieldKind.{FieldKind}
-use Rattle.job_values.specs.declared.place.FieldKind.TheVariants.{WrongKind}
+use Rattle.job_values.specs.declared.path.Section.{Section}
+use Rattle.job_values.specs.declared.path.Section.TheVariants as sections
+use Rattle.job_values.specs.declared.path.FieldAt.{FieldAt}
+use Rattle.job_values.specs.declared.path.FieldKind.{FieldKind}
+use Rattle.job_values.specs.declared.path.FieldKind.TheVariants.{WrongKind}
 use Rattle.job_values.specs.Words.{field_word}
 use Rattle.job_values.specs.Reading.{any_bytes_at, bytes_at, count, list_at, name_at, number_at, optional_list_at, optional_name_at, text_at}
 use Rattle.job_reader.specs.Form.{artefact_fields, bundle_fields, bundle_in, field_of, has_only, job_fields, place_fields, reference_fields, session_fields, whole, WrittenSession, ◌>>=◌, arg_in, args_in, artefact_in, bundle_from, bundle_of, each, Fault, is_object, located, name_in, names_in, place_in, reference_in, session_in, top_field, unless, written_in}

@@ -5,9 +5,9 @@ use Rattle.std.proofs.lemmas.Bool.{leb-true}
 use Rattle.serde_json.specs.Data.{Data, Items, no_items, item}
 use Rattle.serde_json.specs.Find.{get, as_array}
 use Rattle.session_model.specs.Session.{Session}
-use Rattle.job_values.specs.declared.place.FieldAt.{FieldAt}
-use Rattle.job_values.specs.declared.place.FieldKind.{FieldKind}
-use Rattle.job_values.specs.declared.place.FieldKind.TheVariants.{OutOfRange}
+use Rattle.job_values.specs.declared.path.FieldAt.{FieldAt}
+use Rattle.job_values.specs.declared.path.FieldKind.{FieldKind}
+use Rattle.job_values.specs.declared.path.FieldKind.TheVariants.{OutOfRange}
 use Rattle.job_values.specs.declared.words.Field.{Field}
 use Rattle.job_values.specs.declared.words.Field.TheVariants as fields
 use Rattle.job_values.specs.Reading.{count, is_within, list_at, list_of, of_kind, required, sized}
@@ -15,7 +15,7 @@ use Rattle.job_values.specs.Words.{field_word}
 use Rattle.job_reader.specs.Form.{artefact_in, bundle_in, each, Fault, has_only, is_object, job_fields, list_in, located, optional_list_in, place_in, reference_in, session_in, top_field, whole, Written, WrittenSession, written_in, ◌>>=◌}
 use Rattle.job_reader.specs.Finding.{IsAccepted, JobView}
 use Rattle.job_reader.specs.Whole.{AreSessionsOf}
-use Rattle.job_values.specs.declared.place.Section.TheVariants as sections
+use Rattle.job_values.specs.declared.path.Section.TheVariants as sections
 
 -- the value of a result has this, where it has a value
 abbrev Holds : {A E : Type 0} → (A → Type 0) → Result A E → Type 0

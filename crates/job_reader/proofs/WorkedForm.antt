@@ -4,10 +4,10 @@ use Rattle.std.specs.Prelude.{codes}
 use Rattle.hex.proofs.OnLiterals.{hex_on_literals}
 use Rattle.serde_json.specs.Data.{null, number, unsigned, string, array, object, no_items, item, no_members, member}
 use Rattle.job_values.specs.declared.words.Field.TheVariants as fields
-use Rattle.job_values.specs.declared.place.Section.TheVariants as sections
-use Rattle.job_values.specs.declared.place.FieldAt.{FieldAt}
-use Rattle.job_values.specs.declared.place.FieldKind.{FieldKind}
-use Rattle.job_values.specs.declared.place.FieldKind.TheVariants.{Missing, WrongKind, BadName, OutOfRange, Unknown}
+use Rattle.job_values.specs.declared.path.Section.TheVariants as sections
+use Rattle.job_values.specs.declared.path.FieldAt.{FieldAt}
+use Rattle.job_values.specs.declared.path.FieldKind.{FieldKind}
+use Rattle.job_values.specs.declared.path.FieldKind.TheVariants.{Missing, WrongKind, BadName, OutOfRange, Unknown}
 use Rattle.job_reader.specs.Faults.{job_faults, place_faults}
 use Rattle.job_reader.specs.Form.{item_of, artefact_in, bundle_in, bundle_of, Fault, field_of, names_in, place_in, top_field, whole, written_in}
 

@@ -12,11 +12,11 @@ use Rattle.place_check.specs.declared.entry.PlaceEntry.{PlaceEntry}
 use Rattle.reference_book.specs.declared.reference.Reference.{Reference}
 use Rattle.job_values.specs.declared.words.Field.{Field}
 use Rattle.job_values.specs.declared.words.Field.TheVariants as fields
-use Rattle.job_values.specs.declared.place.Section.{Section}
-use Rattle.job_values.specs.declared.place.Section.TheVariants as sections
-use Rattle.job_values.specs.declared.place.FieldAt.{FieldAt}
-use Rattle.job_values.specs.declared.place.FieldKind.{FieldKind}
-use Rattle.job_values.specs.declared.place.FieldKind.TheVariants.{Missing, WrongKind, Unknown}
+use Rattle.job_values.specs.declared.path.Section.{Section}
+use Rattle.job_values.specs.declared.path.Section.TheVariants as sections
+use Rattle.job_values.specs.declared.path.FieldAt.{FieldAt}
+use Rattle.job_values.specs.declared.path.FieldKind.{FieldKind}
+use Rattle.job_values.specs.declared.path.FieldKind.TheVariants.{Missing, WrongKind, Unknown}
 use Rattle.job_values.specs.Words.{field_word}
 use Rattle.job_values.specs.Reading.{any_bytes_at, arg_of, bytes_at, list_at, name_at, name_of, number_at, optional_list_at, optional_name_at, text_at, unknown_in}
 use Rattle.job_reader.specs.declared.accepted.BundleIn.{BundleIn}

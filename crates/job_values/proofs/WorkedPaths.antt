@@ -4,9 +4,9 @@ use Rattle.std.specs.Prelude.{codes}
 use Rattle.std.specs.Fmt.{digits}
 use Rattle.job_values.specs.declared.words.Field.{Field}
 use Rattle.job_values.specs.declared.words.Field.TheVariants as fields
-use Rattle.job_values.specs.declared.place.Section.{Section}
-use Rattle.job_values.specs.declared.place.Section.TheVariants as sections
-use Rattle.job_values.specs.declared.place.FieldAt.{FieldAt}
+use Rattle.job_values.specs.declared.path.Section.{Section}
+use Rattle.job_values.specs.declared.path.Section.TheVariants as sections
+use Rattle.job_values.specs.declared.path.FieldAt.{FieldAt}
 use Rattle.job_values.specs.Words.{path_text}
 
 abbrev at : Section → ℕ → Option Field → Option ℕ → FieldAt

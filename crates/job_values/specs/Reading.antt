@@ -11,10 +11,10 @@ use Rattle.phrase_tree.specs.Name.{is_name}
 use Rattle.phrase_tree.specs.declared.measurement.Arg.{Arg}
 use Rattle.phrase_tree.specs.declared.measurement.Arg.TheVariants.{Word, Number}
 use Rattle.job_values.specs.declared.words.Field.{Field}
-use Rattle.job_values.specs.declared.place.FieldKind.{FieldKind}
-use Rattle.job_values.specs.declared.place.FieldKind.TheVariants.{Missing, WrongKind, BadHex, BadName, OutOfRange}
-use Rattle.job_values.specs.declared.place.FieldError.{FieldError}
-use Rattle.job_values.specs.declared.place.FieldError.TheVariants.{Kind, NoMemory}
+use Rattle.job_values.specs.declared.path.FieldKind.{FieldKind}
+use Rattle.job_values.specs.declared.path.FieldKind.TheVariants.{Missing, WrongKind, BadHex, BadName, OutOfRange}
+use Rattle.job_values.specs.declared.path.FieldError.{FieldError}
+use Rattle.job_values.specs.declared.path.FieldError.TheVariants.{Kind, NoMemory}
 use Rattle.job_values.specs.Words.{field_word}
 
 -- a value of the kind that is wanted, read further; else it is of the wrong kind

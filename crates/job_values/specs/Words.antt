@@ -1,13 +1,13 @@
--- The words of a job's fields and of what may be wrong with them, and how a place in a job is written.
+-- The words of a job's fields and of what may be wrong with them, and how a path in a job is written.
 -- They are this project's own.
 use Rattle.std.specs.Prelude.{ℕ, List, [], ◌++◌, Option, None, Some, codes, decimal}
 use Rattle.job_values.specs.declared.words.Field.{Field}
 use Rattle.job_values.specs.declared.words.Field.TheVariants as fields
-use Rattle.job_values.specs.declared.place.Section.{Section}
-use Rattle.job_values.specs.declared.place.Section.TheVariants as sections
-use Rattle.job_values.specs.declared.place.FieldKind.{FieldKind}
-use Rattle.job_values.specs.declared.place.FieldKind.TheVariants as kinds
-use Rattle.job_values.specs.declared.place.FieldAt.{FieldAt}
+use Rattle.job_values.specs.declared.path.Section.{Section}
+use Rattle.job_values.specs.declared.path.Section.TheVariants as sections
+use Rattle.job_values.specs.declared.path.FieldKind.{FieldKind}
+use Rattle.job_values.specs.declared.path.FieldKind.TheVariants as kinds
+use Rattle.job_values.specs.declared.path.FieldAt.{FieldAt}
 
 -- the key of a field
 abbrev pub field_word : Field → List ℕ
@@ -73,6 +73,6 @@ abbrev pub item_text : Option ℕ → List ℕ
 item_text None = []
 item_text (Some item) = index_text item
 
--- a place in a job, from the dollar sign that stands for the job itself
+-- a path in a job, from the dollar sign that stands for the job itself
 abbrev pub path_text : FieldAt → List ℕ
 path_text at = codes "$" ++ (section_text at.section at.index ++ (field_text at.field ++ item_text at.item))

@@ -3,13 +3,13 @@
 //! fault is written, `specs/Reading.antt` what each reader answers.
 #![tactic(auto)]
 
-mod place;
+mod path;
 mod reading;
 #[cfg(test)]
 mod tests;
 mod words;
 
-pub use place::{FieldAt, FieldError, FieldKind, Section};
+pub use path::{FieldAt, FieldError, FieldKind, Section};
 pub use reading::{
     any_bytes_at, arg_of, bytes_at, list_at, name_at, name_of, number_at, optional_list_at,
     optional_name_at, text_at, unknown_in,

@@ -4,7 +4,7 @@ ghost use Rattle.std.specs.List.{list_any};
 ghost use Rattle.serde_json.specs.View.{items_view, view};
 ghost use Rattle.job_values.specs.Reading.{any_bytes_at, any_bytes_of, arg_of, bytes_at, list_at, list_of, name_at, name_of, named, number_at, number_of, optional_list_at, optional_name_at, ReadsBytes, seen, text_at, unknown_in, is_known};
 
-use crate::place::{FieldError, FieldKind};
+use crate::path::{FieldError, FieldKind};
 use crate::words::Field;
 use byte_ports::Bytes;
 use hex::FromHexError;

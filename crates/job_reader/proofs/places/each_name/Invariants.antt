@@ -1,5 +1,5 @@
 -- The names before the position were read.
-use Rattle.job_values.specs.declared.place.Section.TheVariants as sections
+use Rattle.job_values.specs.declared.path.Section.TheVariants as sections
 use Rattle.job_reader.specs.Form.{name_in}
 use Rattle.job_reader.specs.Reading.{IsReadTo}
 use Rattle.job_reader.proofs.places.each_name.Given as goal
