@@ -2,3 +2,4 @@ pub mod WellFormed
 pub mod Reading
 pub mod Opening
 pub mod Decoding
+pub mod Words

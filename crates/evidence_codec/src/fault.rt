@@ -1,3 +1,6 @@
+ghost use Rattle.std.specs.Prelude.{◌≡◌};
+ghost use Rattle.evidence_codec.specs.Words.{bundle_word};
+
 /// What is wrong with bytes that are not a bundle.
 #[derive(Clone, Copy, Debug, PartialEq, Eq)]
 pub enum BadKind {
@@ -11,6 +14,21 @@ pub enum BadKind {
     Rest,
     /// The nodes nest too deep.
     Deep,
+}
+
+impl BadKind {
+    /// The word for it in the line of a refusal.
+    pub fn word(self) -> &'static str
+        ensures { result.now ≡ bundle_word self }
+    {
+        match self {
+            BadKind::Short => "short",
+            BadKind::Tag => "tag",
+            BadKind::Length => "length",
+            BadKind::Rest => "rest",
+            BadKind::Deep => "deep",
+        }
+    }
 }
 
 /// A fault: its offset in the bytes, which counts from 0, and what is wrong there.

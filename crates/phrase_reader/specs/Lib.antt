@@ -3,6 +3,7 @@ pub mod Grammar
 pub mod Canonical
 pub mod Spelling
 pub mod Refusal
+pub mod Words
 pub mod Answer
 pub mod Machine
 pub mod Reading

@@ -1,3 +1,6 @@
+ghost use Rattle.std.specs.Prelude.{◌≡◌};
+ghost use Rattle.phrase_reader.specs.Words.{refusal_word};
+
 /// Why a text is not a phrase.
 #[derive(Clone, Copy, Debug, PartialEq, Eq)]
 pub enum Kind {
@@ -19,6 +22,25 @@ pub enum Kind {
     TooLong,
     /// More than 2,048 events.
     TooManyEvents,
+}
+
+impl Kind {
+    /// The word for it in the line of a refusal.
+    pub fn word(self) -> &'static str
+        ensures { result.now ≡ refusal_word self }
+    {
+        match self {
+            Kind::Char => "char",
+            Kind::Word => "word",
+            Kind::Expected => "expected",
+            Kind::Trailing => "trailing",
+            Kind::TooManyArgs => "too-many-args",
+            Kind::NumberTooLarge => "number-too-large",
+            Kind::TooDeep => "too-deep",
+            Kind::TooLong => "too-long",
+            Kind::TooManyEvents => "too-many-events",
+        }
+    }
 }
 
 /// Why no phrase was read: the text is refused, or there was no memory.

@@ -1,3 +1,6 @@
+ghost use Rattle.std.specs.Prelude.{◌≡◌};
+ghost use Rattle.place_check.specs.Words.{place_word};
+
 use phrase_tree::{Names, Place};
 use seal_hmac::Key;
 
@@ -32,6 +35,20 @@ pub enum PlaceKind {
     NotOffered,
     /// A measurement of a target that the place may not see.
     MayNotSee,
+}
+
+impl PlaceKind {
+    /// The word for it in the line of a refusal.
+    pub fn word(self) -> &'static str
+        ensures { result.now ≡ place_word self }
+    {
+        match self {
+            PlaceKind::UnknownPlace => "unknown-place",
+            PlaceKind::MayNotAsk => "may-not-ask",
+            PlaceKind::NotOffered => "not-offered",
+            PlaceKind::MayNotSee => "may-not-see",
+        }
+    }
 }
 
 /// Why a session was refused.

@@ -1,44 +1,14 @@
 -- The one line that a refusal writes. The lines are this project's own: each ends with LF, and numbers
 -- are decimal.
 use Rattle.std.specs.Prelude.{ℕ, List, [], ◌∷◌, ◌++◌, codes, decimal}
-use Rattle.phrase_reader.specs.declared.refusal.Kind.{Kind}
-use Rattle.phrase_reader.specs.declared.refusal.Kind.TheVariants as kinds
-use Rattle.place_check.specs.declared.entry.PlaceKind.{PlaceKind}
-use Rattle.place_check.specs.declared.entry.PlaceKind.TheVariants.{UnknownPlace, MayNotAsk, NotOffered, MayNotSee}
-use Rattle.evidence_codec.specs.declared.fault.BadKind.{BadKind}
-use Rattle.evidence_codec.specs.declared.fault.BadKind.TheVariants as bad_kinds
+use Rattle.phrase_reader.specs.Words.{refusal_word}
+use Rattle.place_check.specs.Words.{place_word}
+use Rattle.evidence_codec.specs.Words.{bundle_word}
 use Rattle.job_values.specs.Words.{kind_word, path_text}
 use Rattle.job_reader.specs.declared.refusal.JobError.{JobError}
 use Rattle.job_reader.specs.declared.refusal.JobError.TheVariants as errors
 use Rattle.report_text.specs.declared.refusal.Refusal.{Refusal}
 use Rattle.report_text.specs.declared.refusal.Refusal.TheVariants.{Words, Unbuilt, ReadFault, TooLong, Job, NoReference, BadBundle, BadShape, NoMemory}
-
--- the word for why a phrase's text is refused
-abbrev pub refusal_word : Kind → List ℕ
-refusal_word kinds.Char = codes "char"
-refusal_word kinds.Word = codes "word"
-refusal_word kinds.Expected = codes "expected"
-refusal_word kinds.Trailing = codes "trailing"
-refusal_word kinds.TooManyArgs = codes "too-many-args"
-refusal_word kinds.NumberTooLarge = codes "number-too-large"
-refusal_word kinds.TooDeep = codes "too-deep"
-refusal_word kinds.TooLong = codes "too-long"
-refusal_word kinds.TooManyEvents = codes "too-many-events"
-
--- the word for the rule that an event breaks
-abbrev pub place_word : PlaceKind → List ℕ
-place_word UnknownPlace = codes "unknown-place"
-place_word MayNotAsk = codes "may-not-ask"
-place_word NotOffered = codes "not-offered"
-place_word MayNotSee = codes "may-not-see"
-
--- the word for what is wrong with bytes that are no bundle
-abbrev pub bundle_word : BadKind → List ℕ
-bundle_word bad_kinds.Short = codes "short"
-bundle_word bad_kinds.Tag = codes "tag"
-bundle_word bad_kinds.Length = codes "length"
-bundle_word bad_kinds.Rest = codes "rest"
-bundle_word bad_kinds.Deep = codes "deep"
 
 -- the end of a line: one number, two numbers, or two numbers and a word
 abbrev pub one_number : ℕ → List ℕ

@@ -1,8 +1,11 @@
 ghost use Rattle.std.specs.Prelude.{◌≡◌, ◌+◌, ◌≤◌, ◌++◌, ◌∷◌, [], codes, decimal, length};
+ghost use Rattle.phrase_reader.specs.Words.{refusal_word};
+ghost use Rattle.place_check.specs.Words.{place_word};
+ghost use Rattle.evidence_codec.specs.Words.{bundle_word};
 ghost use Rattle.job_values.specs.Words.{field_text, field_word, index_text, item_text, kind_word, section_text, section_word};
 ghost use Rattle.job_reader.specs.declared.refusal.JobError.TheVariants as errors;
 ghost use Rattle.report_text.specs.declared.refusal.Refusal.TheVariants as refusals;
-ghost use Rattle.report_text.specs.Refusal.{bundle_word, job_line, line_of, numbers_and_word, one_number, place_word, refusal_word, two_numbers};
+ghost use Rattle.report_text.specs.Refusal.{job_line, line_of, numbers_and_word, one_number, two_numbers};
 
 use crate::inline_line::Line;
 use evidence_codec::BadKind;
@@ -74,13 +77,13 @@ fn job_line(error: &JobError) -> Line
             *second,
         ),
         JobError::BadPhrase { session, at, kind } => {
-            word_line(b"error: phrase ", *session, *at, refusal_word(*kind))
+            word_line(b"error: phrase ", *session, *at, refusal_bytes(*kind))
         }
         JobError::Misplaced {
             session,
             event,
             kind,
-        } => word_line(b"error: misplaced ", *session, *event, place_word(*kind)),
+        } => word_line(b"error: misplaced ", *session, *event, place_bytes(*kind)),
         JobError::Oversize { session, event } => pair_line(b"error: oversize ", *session, *event),
         JobError::NoMemory => Line::of(b"error: no memory\n"),
     }
@@ -104,22 +107,16 @@ fn bundle_line(at: u32, kind: BadKind) -> Line
     let mut line = Line::of(b"error: bad bundle at ");
     line.push_number(at);
     line.push(b" ");
-    line.push(bundle_word(kind));
+    line.push(bundle_bytes(kind));
     line.push(b"\n");
     line
 }
 
-fn bundle_word(kind: BadKind) -> &'static [u8]
+fn bundle_bytes(kind: BadKind) -> &'static [u8]
     ensures word { result.now ≡ bundle_word kind }
     ensures few { length result.now ≤ 16 }
 {
-    match kind {
-        BadKind::Short => b"short",
-        BadKind::Tag => b"tag",
-        BadKind::Length => b"length",
-        BadKind::Rest => b"rest",
-        BadKind::Deep => b"deep",
-    }
+    kind.word().as_bytes()
 }
 
 /// A line with two numbers after a text.
@@ -151,33 +148,18 @@ fn word_line(text: &[u8], first: u32, second: u32, word: &[u8]) -> Line
     line
 }
 
-fn refusal_word(kind: Kind) -> &'static [u8]
+fn refusal_bytes(kind: Kind) -> &'static [u8]
     ensures word { result.now ≡ refusal_word kind }
     ensures few { length result.now ≤ 16 }
 {
-    match kind {
-        Kind::Char => b"char",
-        Kind::Word => b"word",
-        Kind::Expected => b"expected",
-        Kind::Trailing => b"trailing",
-        Kind::TooManyArgs => b"too-many-args",
-        Kind::NumberTooLarge => b"number-too-large",
-        Kind::TooDeep => b"too-deep",
-        Kind::TooLong => b"too-long",
-        Kind::TooManyEvents => b"too-many-events",
-    }
+    kind.word().as_bytes()
 }
 
-fn place_word(kind: PlaceKind) -> &'static [u8]
+fn place_bytes(kind: PlaceKind) -> &'static [u8]
     ensures word { result.now ≡ place_word kind }
     ensures few { length result.now ≤ 16 }
 {
-    match kind {
-        PlaceKind::UnknownPlace => b"unknown-place",
-        PlaceKind::MayNotAsk => b"may-not-ask",
-        PlaceKind::NotOffered => b"not-offered",
-        PlaceKind::MayNotSee => b"may-not-see",
-    }
+    kind.word().as_bytes()
 }
 
 /// The line of a fault of form, with its path.
