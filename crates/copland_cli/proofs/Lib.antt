@@ -2,6 +2,6 @@ pub mod WordLemmas
 pub mod PortLemmas
 pub mod MeaningLemmas
 pub mod OutcomeLemmas
-pub mod ReportedLemmas
+pub mod RecordLemmas
 pub mod AnswerLemmas
 pub mod FunctionLemmas

@@ -9,10 +9,10 @@ use Rattle.report_text.specs.declared.refusal.Refusal.{Refusal}
 use Rattle.report_text.specs.declared.refusal.Refusal.TheVariants.{Words, Unbuilt, ReadFault, TooLong, Job as JobRefused, NoReference, BadBundle, BadShape, NoMemory}
 use Rattle.copland_cli.specs.Commands.{IsBuilt, input_of}
 use Rattle.copland_cli.specs.Input.{IsReadAs, IsRefusalFor, IsRefusedOver, IsSolely, IsSubject, IsSubjectBy, IsUnreadable, IsWithoutSubject, IsWithoutSubjectBy, is_required}
-use Rattle.copland_cli.specs.Meaning.{IsReport, RefusesJob, SaysIn}
+use Rattle.copland_cli.specs.Meaning.{IsReport, RefusesJob}
 use Rattle.copland_cli.specs.Outcome.{IsMeant, IsRun}
 use Rattle.copland_cli.specs.Port.{Port, IsWhole}
-use Rattle.copland_cli.specs.Reported.{Failing, Giving, ReportsEach}
+use Rattle.copland_cli.specs.Reported.{Failing, Giving}
 use Rattle.copland_cli.specs.declared.ending.Ending.{Ending}
 use Rattle.copland_cli.specs.declared.input.BundleNeed.{BundleNeed}
 use Rattle.copland_cli.specs.declared.input.Input.{Input}
@@ -48,15 +48,3 @@ refused_at bytes need appraise error why same found exact h =
     (subst (λ (b : Bool). UnlessNoMemory (Err error) (IsFinding bytes b (refused error))) same found)
     (subst (λ (b : Bool). (finding : Finding) → UnlessNoMemory (Err error) ((refused error ≡ finding) ↔ IsFinding bytes b finding)) same exact)
     h
-
--- a command whose report says something of each session
-pub reports : (Gives : Giving) (Fails : Failing) (command : Command) (job : JobView) (text : List ℕ) (ending : Ending) → IsBuilt command → ReportsEach (SaysIn Gives Fails job command) job.sessions text ending → IsReport Gives Fails command job text ending
-reports Gives Fails Check job text ending built h = h
-reports Gives Fails Shape job text ending built h = h
-reports Gives Fails Events job text ending built h = h
-reports Gives Fails Code job text ending built h = h
-reports Gives Fails Eval job text ending built h = h
-reports Gives Fails (Walk schedule) job text ending built h = h
-reports Gives Fails (Attest workers) job text ending built h = absurd built
-reports Gives Fails Appraise job text ending built h = absurd built
-reports Gives Fails (Load number) job text ending built h = absurd built

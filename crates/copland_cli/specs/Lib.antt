@@ -3,7 +3,6 @@ pub mod Commands
 pub mod Status
 pub mod Port
 pub mod Input
-pub mod Report
 pub mod Recorded
 pub mod Reported
 pub mod Meaning

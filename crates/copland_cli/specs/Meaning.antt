@@ -2,11 +2,14 @@
 -- reports. A command has a row in each table.
 use Rattle.std.specs.Prelude.{◌≡◌, ℕ, List}
 use Rattle.place_check.specs.Places.{keys_of}
+use Rattle.session_model.specs.Record.{Record}
 use Rattle.job_reader.specs.Finding.{JobView}
+use Rattle.report_text.specs.Records.{records_text, values_text}
 use Rattle.report_text.specs.declared.refusal.Refusal.{Refusal}
 use Rattle.report_text.specs.declared.refusal.Refusal.TheVariants.{Words, Unbuilt, ReadFault, TooLong, Job, NoReference, BadBundle, BadShape, NoMemory}
-use Rattle.copland_cli.specs.Reported.{Failing, Giving, ReportsEach, Says, Saying}
+use Rattle.copland_cli.specs.Reported.{Failing, Giving, IsOfRecords, SaysOfEach, aspect_text}
 use Rattle.copland_cli.specs.declared.ending.Ending.{Ending}
+use Rattle.copland_cli.specs.declared.session.Aspect.TheVariants as aspects
 use Rattle.copland_cli.specs.declared.words.Command.{Command}
 use Rattle.copland_cli.specs.declared.words.Command.TheVariants.{Check, Shape, Events, Code, Eval, Walk, Attest, Appraise, Load}
 
@@ -22,18 +25,19 @@ RefusesJob Gives Fails (Attest workers) job why = ⊥
 RefusesJob Gives Fails Appraise job why = ⊥
 RefusesJob Gives Fails (Load number) job why = ⊥
 
--- what a command says of a session of a job
-abbrev pub SaysIn : Giving → Failing → JobView → Command → Saying
-SaysIn Gives Fails job command = Says (Gives job.artefacts) (Fails job.artefacts) (keys_of job.places) command
+-- the report is this text of one record of each session of a job
+abbrev pub IsOfRecordsIn : Giving → Failing → JobView → (List Record → List ℕ) → List ℕ → Ending → Type 0
+IsOfRecordsIn Gives Fails job text_of text ending =
+    IsOfRecords (Gives job.artefacts) (Fails job.artefacts) (keys_of job.places) job.sessions text_of text ending
 
 -- the text is a report of the command on an accepted job, and ends so
 abbrev pub IsReport : Giving → Failing → Command → JobView → List ℕ → Ending → Type 0
-IsReport Gives Fails Check job text ending = ReportsEach (SaysIn Gives Fails job Check) job.sessions text ending
-IsReport Gives Fails Shape job text ending = ReportsEach (SaysIn Gives Fails job Shape) job.sessions text ending
-IsReport Gives Fails Events job text ending = ReportsEach (SaysIn Gives Fails job Events) job.sessions text ending
-IsReport Gives Fails Code job text ending = ReportsEach (SaysIn Gives Fails job Code) job.sessions text ending
-IsReport Gives Fails Eval job text ending = ReportsEach (SaysIn Gives Fails job Eval) job.sessions text ending
-IsReport Gives Fails (Walk schedule) job text ending = ReportsEach (SaysIn Gives Fails job (Walk schedule)) job.sessions text ending
+IsReport Gives Fails Check job text ending = SaysOfEach (aspect_text aspects.Check) job.sessions text ending
+IsReport Gives Fails Shape job text ending = SaysOfEach (aspect_text aspects.Shape) job.sessions text ending
+IsReport Gives Fails Events job text ending = SaysOfEach (aspect_text aspects.Events) job.sessions text ending
+IsReport Gives Fails Code job text ending = SaysOfEach (aspect_text aspects.Code) job.sessions text ending
+IsReport Gives Fails Eval job text ending = IsOfRecordsIn Gives Fails job values_text text ending
+IsReport Gives Fails (Walk schedule) job text ending = IsOfRecordsIn Gives Fails job records_text text ending
 IsReport Gives Fails (Attest workers) job text ending = ⊥
 IsReport Gives Fails Appraise job text ending = ⊥
 IsReport Gives Fails (Load number) job text ending = ⊥

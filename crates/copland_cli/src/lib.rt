@@ -11,10 +11,8 @@ mod input;
 mod job_tests;
 mod laws;
 mod outcome;
-mod record;
 #[cfg(test)]
 mod refusal_tests;
-mod report;
 mod session;
 mod status;
 #[cfg(test)]

@@ -1,21 +1,22 @@
 ghost use Rattle.std.specs.Prelude.{◌≤◌, ◌↔◌, IsTrue, IfOk, length};
 ghost use Rattle.job_reader.specs.Accepted.{HasCheckedSessions, job_view};
+ghost use Rattle.report_text.specs.Records.{records_text, values_text};
 ghost use Rattle.copland_cli.specs.Commands.{IsBuilt, IsPlain};
-ghost use Rattle.copland_cli.specs.Meaning.{IsReport, SaysIn};
+ghost use Rattle.copland_cli.specs.Meaning.{IsOfRecordsIn, IsReport};
 ghost use Rattle.copland_cli.specs.Outcome.{IsDecided, IsMeant, IsRun};
 ghost use Rattle.copland_cli.specs.Port.{port};
-ghost use Rattle.copland_cli.specs.Reported.{ReportsEach};
+ghost use Rattle.copland_cli.specs.Reported.{SaysOfEach, aspect_text};
 ghost use Rattle.copland_cli.specs.Words.{texts};
 
 use crate::ending::Ending;
 use crate::input::{Input, read_job};
-use crate::session::push_session;
+use crate::session::{Aspect, push_aspect, records_of, some_failed};
 use crate::words::{Command, command_of};
 use bench_trait::Bench;
 use byte_ports::{Bytes, Source};
 use job_reader::Job;
 use phrase_tree::NoMemory;
-use report_text::Refusal;
+use report_text::{Refusal, records_text, values_text};
 use std::alloc::Global;
 
 /// What is decided before anything is written.
@@ -88,14 +89,14 @@ fn run_over<B: Bench>(alloc: Global, command: Command, job: &Job, bench: &B) -> 
     requires few { length job.now.sessions.items ≤ 256 }
     ensures { IsMeant (B.gives bench.now) (B.fails bench.now) command (job_view job.now) result }
 {
-    match report_each(alloc, command, job, bench) {
+    match report_on(alloc, command, job, bench) {
         Ok(report) => Outcome::Reported(report),
         Err(_) => Outcome::Refused(Refusal::NoMemory),
     }
 }
 
-/// Says what the command says of each session of a job, in order.
-fn report_each<B: Bench>(
+/// The report of a command on an accepted job.
+fn report_on<B: Bench>(
     alloc: Global,
     command: Command,
     job: &Job,
@@ -104,22 +105,54 @@ fn report_each<B: Bench>(
     requires built { IsBuilt command }
     requires checked { HasCheckedSessions job.now }
     requires few { length job.now.sessions.items ≤ 256 }
-    ensures { IfOk result (λ report. ReportsEach
-        (SaysIn (B.gives bench.now) (B.fails bench.now) (job_view job.now) command)
-        (job_view job.now).sessions
-        report.text
-        report.ending) }
+    ensures { IfOk result (λ report. IsReport (B.gives bench.now) (B.fails bench.now) command (job_view job.now) report.text report.ending) }
+{
+    match command {
+        Command::Check => describe_each(alloc, Aspect::Check, job),
+        Command::Shape => describe_each(alloc, Aspect::Shape, job),
+        Command::Events => describe_each(alloc, Aspect::Events, job),
+        Command::Code => describe_each(alloc, Aspect::Code, job),
+        Command::Eval => evaluate_each(alloc, job, bench),
+        Command::Walk(_) => walk_each(alloc, job, bench),
+        Command::Attest(_) | Command::Appraise | Command::Load(_) => unreachable!(),
+    }
+}
+
+/// Reports an aspect of each session.
+fn describe_each(alloc: Global, aspect: Aspect, job: &Job) -> Result<Report, NoMemory>
+    requires few { length job.now.sessions.items ≤ 256 }
+    ensures { IfOk result (λ report. SaysOfEach (aspect_text aspect) (job_view job.now).sessions report.text report.ending) }
 {
     let mut text = Vec::new(alloc);
-    let mut some_failed = false;
     let mut number = 0;
     for checked in job.sessions.as_slice() {
-        let did_fail = push_session(&mut text, number, command, job, checked, bench)?;
-        some_failed |= did_fail;
+        push_aspect(&mut text, number, aspect, checked)?;
         number += 1;
     }
     Ok(Report {
         text: Bytes::of(text),
-        ending: Ending::of_sessions(some_failed),
+        ending: Ending::Good,
     })
+}
+
+/// Reports a record of each session, without its trace.
+fn evaluate_each<B: Bench>(alloc: Global, job: &Job, bench: &B) -> Result<Report, NoMemory>
+    requires { HasCheckedSessions job.now }
+    ensures { IfOk result (λ report. IsOfRecordsIn (B.gives bench.now) (B.fails bench.now) (job_view job.now) values_text report.text report.ending) }
+{
+    let records = records_of(alloc, job, bench)?;
+    let text = values_text(alloc, records.as_slice())?;
+    let ending = Ending::of_sessions(some_failed(records.as_slice()));
+    Ok(Report { text, ending })
+}
+
+/// Reports a record of each session.
+fn walk_each<B: Bench>(alloc: Global, job: &Job, bench: &B) -> Result<Report, NoMemory>
+    requires { HasCheckedSessions job.now }
+    ensures { IfOk result (λ report. IsOfRecordsIn (B.gives bench.now) (B.fails bench.now) (job_view job.now) records_text report.text report.ending) }
+{
+    let records = records_of(alloc, job, bench)?;
+    let text = records_text(alloc, records.as_slice())?;
+    let ending = Ending::of_sessions(some_failed(records.as_slice()));
+    Ok(Report { text, ending })
 }

@@ -1,4 +1,4 @@
-ghost use Rattle.std.specs.Prelude.{◌≡◌, ◌++◌, List, ℕ, IfOk, IsTrue, is_some};
+ghost use Rattle.std.specs.Prelude.{◌≡◌, ◌++◌, IfOk, IsTrue, OnOk, is_some, map};
 ghost use Rattle.std.specs.List.{AllByRecursion};
 ghost use Rattle.phrase_tree.specs.Term.{term};
 ghost use Rattle.seal_hmac.specs.Keys.{key_of};
@@ -6,111 +6,75 @@ ghost use Rattle.avm_compile.specs.Program.{program_of};
 ghost use Rattle.place_check.specs.Places.{keys_of};
 ghost use Rattle.place_check.specs.Session.{IsCheckedAgainst, session_of};
 ghost use Rattle.plain_eval.specs.Keyed.{HasKeys};
-ghost use Rattle.session_model.specs.Record.{IsRisingRecord};
-ghost use Rattle.session_model.specs.RightRecord.{IsRightRecord};
-ghost use Rattle.copland_cli.specs.Recorded.{recorded};
-ghost use Rattle.copland_cli.specs.Report.{record_text, value_text};
-ghost use Rattle.copland_cli.specs.Reported.{IsRecordText, Says};
-ghost use Rattle.copland_cli.specs.Commands.{IsBuilt};
+ghost use Rattle.session_model.specs.Recorded.{recorded};
+ghost use Rattle.job_reader.specs.Accepted.{HasCheckedSessions, job_view};
+ghost use Rattle.copland_cli.specs.Reported.{AreRecords, IsRecordOf, aspect_text, some_failed};
 
-use crate::record::Record;
-use crate::report::{push_check, push_code, push_events, push_record, push_shape, push_value};
 use crate::walk::walk_rising;
-use crate::words::Command;
 use avm_compile::blocks_are_where_events_are;
 use bench_trait::Bench;
 use job_reader::Job;
 use phrase_tree::NoMemory;
 use place_check::{Checked, Places, checked_session_has_keys};
 use plain_eval::events_have_the_keys_of_seals;
+use report_text::{push_check, push_code, push_events, push_shape};
+use session_model::Record;
 use std::alloc::Global;
 
-/// Appends what a command says of a session of a job, and tells whether the session failed.
-pub fn push_session<B: Bench>(
+/// What a command says of a session that it doesn't run.
+#[derive(Clone, Copy, Debug, PartialEq, Eq)]
+pub enum Aspect {
+    Check,
+    Shape,
+    Events,
+    Code,
+}
+
+/// Appends an aspect of a session.
+pub fn push_aspect(
     text: &mut Vec<u8>,
     number: u32,
-    command: Command,
-    job: &Job,
+    aspect: Aspect,
     checked: &Checked,
-    bench: &B,
-) -> Result<bool, NoMemory>
-    requires built { IsBuilt command }
-    requires checked { IsCheckedAgainst (session_of checked.now) job.now.places }
-    ensures { IfOk result (λ did_fail. (piece : List ℕ) × (text.new.items ≡ text.old.items ++ piece) × Says
-        (B.gives bench.now job.now.artefacts)
-        (B.fails bench.now job.now.artefacts)
-        (keys_of job.now.places)
-        command
-        number
-        (session_of checked.now)
-        piece
-        did_fail) }
+) -> Result<(), NoMemory>
+    ensures { OnOk result (text.new.items ≡ text.old.items ++ aspect_text aspect number (session_of checked.now)) }
 {
-    match command {
-        Command::Check => {
-            push_check(text, number, checked)?;
-            Ok(false)
-        }
-        Command::Shape => {
-            push_shape(text, number, checked)?;
-            Ok(false)
-        }
-        Command::Events => {
-            push_events(text, number, checked)?;
-            Ok(false)
-        }
-        Command::Code => {
-            push_code(text, number, checked)?;
-            Ok(false)
-        }
-        Command::Eval => push_evaluated(text, number, job, checked, bench),
-        Command::Walk(_) => push_walked(text, number, job, checked, bench),
-        Command::Attest(_) | Command::Appraise | Command::Load(_) => unreachable!(),
+    match aspect {
+        Aspect::Check => push_check(text, number, checked),
+        Aspect::Shape => push_shape(text, number, checked),
+        Aspect::Events => push_events(text, number, checked),
+        Aspect::Code => push_code(text, number, checked),
     }
 }
 
-fn push_evaluated<B: Bench>(
-    text: &mut Vec<u8>,
-    number: u32,
-    job: &Job,
-    checked: &Checked,
-    bench: &B,
-) -> Result<bool, NoMemory>
-    requires { IsCheckedAgainst (session_of checked.now) job.now.places }
-    ensures { IfOk result (λ did_fail. (piece : List ℕ) × (text.new.items ≡ text.old.items ++ piece) × IsRecordText
+/// One record of each session of a job, in their order.
+pub fn records_of<B: Bench>(alloc: Global, job: &Job, bench: &B) -> Result<Vec<Record>, NoMemory>
+    requires { HasCheckedSessions job.now }
+    ensures { IfOk result (λ records. AreRecords
         (B.gives bench.now job.now.artefacts)
         (B.fails bench.now job.now.artefacts)
         (keys_of job.now.places)
-        (session_of checked.now)
-        (value_text number)
-        piece
-        did_fail) }
+        (job_view job.now).sessions
+        (map recorded records.items)) }
 {
-    let record = record_of(*text.allocator(), job, checked, bench)?;
-    push_value(text, number, &record)?;
-    Ok(record.is_failed())
+    let mut records = Vec::new(alloc);
+    for checked in job.sessions.as_slice() {
+        let found = record_of(alloc, job, checked, bench)?;
+        records.push(found)?;
+    }
+    Ok(records)
 }
 
-fn push_walked<B: Bench>(
-    text: &mut Vec<u8>,
-    number: u32,
-    job: &Job,
-    checked: &Checked,
-    bench: &B,
-) -> Result<bool, NoMemory>
-    requires { IsCheckedAgainst (session_of checked.now) job.now.places }
-    ensures { IfOk result (λ did_fail. (piece : List ℕ) × (text.new.items ≡ text.old.items ++ piece) × IsRecordText
-        (B.gives bench.now job.now.artefacts)
-        (B.fails bench.now job.now.artefacts)
-        (keys_of job.now.places)
-        (session_of checked.now)
-        (record_text number)
-        piece
-        did_fail) }
+/// Whether one of the records is of a session that failed.
+pub fn some_failed(records: &[Record]) -> bool
+    ensures { result ≡ some_failed (map recorded records.now) }
 {
-    let record = record_of(*text.allocator(), job, checked, bench)?;
-    push_record(text, number, &record)?;
-    Ok(record.is_failed())
+    for found in records {
+        if found.is_failed() {
+            return true;
+        }
+    }
+    false
 }
 
 /// The record of a session of a job.
@@ -121,18 +85,12 @@ fn record_of<B: Bench>(
     bench: &B,
 ) -> Result<Record, NoMemory>
     requires { IsCheckedAgainst (session_of checked.now) job.now.places }
-    ensures right { IfOk result (λ record'. IsRightRecord
+    ensures { IfOk result (λ found. IsRecordOf
         (B.gives bench.now job.now.artefacts)
         (B.fails bench.now job.now.artefacts)
-        (session_of checked.now)
         (keys_of job.now.places)
-        (recorded record')) }
-    ensures rising { IfOk result (λ record'. IsRisingRecord
-        (B.gives bench.now job.now.artefacts)
-        (B.fails bench.now job.now.artefacts)
         (session_of checked.now)
-        (keys_of job.now.places)
-        (recorded record')) }
+        (recorded found)) }
 {
     have_keys(job, checked);
     walk_rising(alloc, checked, job.places.keys(), &job.artefacts, bench)

@@ -4,9 +4,9 @@ ghost use Rattle.place_check.specs.Session.{session_of};
 ghost use Rattle.plain_eval.specs.Keyed.{HasKeys};
 ghost use Rattle.session_model.specs.Record.{IsRisingRecord, numbers_below};
 ghost use Rattle.session_model.specs.RightRecord.{IsRightRecord};
-ghost use Rattle.copland_cli.specs.Recorded.{done_with, failed_at, recorded};
+ghost use Rattle.session_model.specs.Recorded.{recorded};
+ghost use Rattle.copland_cli.specs.Recorded.{done_with, failed_at};
 
-use crate::record::{DoneRecord, FailRecord, Record};
 use bench_trait::{ArtefactBook, Bench, BenchFault};
 use evidence_codec::encode;
 use evidence_types::Answers;
@@ -14,6 +14,7 @@ use phrase_tree::{NoMemory, Trace};
 use place_check::Checked;
 use plain_eval::{Gathered, eval, gather, rising_records_are_right};
 use seal_hmac::KeyRing;
+use session_model::{DoneRecord, FailRecord, Record};
 use std::alloc::Global;
 
 /// Walks one session to its end on one thread: asks its questions in the order of their events, and

@@ -11,7 +11,7 @@ use Rattle.bench_trait.specs.Digest.{artefact_place, digest_answer, LacksArtefac
 use Rattle.bench_trait.specs.declared.artefacts.Artefact.{Artefact}
 use Rattle.bench_trait.specs.declared.ask.Ask.{Ask}
 use Rattle.bench_trait.specs.declared.bench.BenchFault.{BenchFault}
-use Rattle.session_model.specs.Record.{Record, done, failed, numbers_below, AreAnswers, AreAnsweredBefore, IsDone, IsFailed, IsRisingRecord}
+use Rattle.session_model.specs.Record.{Record, done, failed, numbers_below, AreAnswers, AreAnsweredBefore, IsRisingDone, IsRisingFailed, IsRisingRecord}
 use Rattle.session_model.specs.Session.{Session, session_questions}
 use Rattle.session_model.specs.Value.{session_value}
 use Rattle.plain_eval.specs.Fixed.{IsFixed, SaysDone, HasArtefact, HaveArtefacts}
@@ -54,7 +54,7 @@ one_list Gives Fails (ask ∷ asks) (pair ∷ one) (twin ∷ other) f a b =
     let head : pair ≡ twin = ap (λ (n : ℕ). (n, pair.1)) (a.0 ∙ sym b.0) ∙ ap (λ (answer : List ℕ). (twin.0, answer)) (f.one_answer ask pair.1 twin.1 a.1 b.1) in
     ap (λ (first : ℕ × List ℕ). first ∷ one) head ∙ ap (λ (rest : List (ℕ × List ℕ)). twin ∷ rest) (one_list Gives Fails asks one other f a.2 b.2)
 
-done_twice : (Gives : Ask → List ℕ → Type 0) (Fails : Ask → BenchFault → Type 0) (session : Session) (keys : List (List ℕ × List ℕ)) (trace again : List ℕ) (one other : List (ℕ × List ℕ)) (bytes same : List ℕ) → IsFixed Gives Fails → IsDone Gives session keys trace one bytes → IsDone Gives session keys again other same → done trace one bytes ≡ done again other same
+done_twice : (Gives : Ask → List ℕ → Type 0) (Fails : Ask → BenchFault → Type 0) (session : Session) (keys : List (List ℕ × List ℕ)) (trace again : List ℕ) (one other : List (ℕ × List ℕ)) (bytes same : List ℕ) → IsFixed Gives Fails → IsRisingDone Gives session keys trace one bytes → IsRisingDone Gives session keys again other same → done trace one bytes ≡ done again other same
 done_twice Gives Fails session keys trace again one other bytes same f a b =
     let answers = one_list Gives Fails (session_questions session) one other f a.answered b.answered in
     let bundled : bytes ≡ same = a.bundled ∙ ap (λ (list : List (ℕ × List ℕ)). bundle (session_value session.phrase session.root (record { nonce = session.nonce; answers = list; keys = keys }))) answers ∙ sym b.bundled in
@@ -62,12 +62,12 @@ done_twice Gives Fails session keys trace again one other bytes same f a b =
     ∙ ap (λ (list : List (ℕ × List ℕ)). done again list bytes) answers
     ∙ ap (λ (all : List ℕ). done again other all) bundled
 
-done_and_failed : (Gives : Ask → List ℕ → Type 0) (Fails : Ask → BenchFault → Type 0) (session : Session) (keys : List (List ℕ × List ℕ)) (trace so_far : List ℕ) (answers : List (ℕ × List ℕ)) (bytes : List ℕ) (event : ℕ) (fault : BenchFault) → IsFixed Gives Fails → IsDone Gives session keys trace answers bytes → IsFailed Gives Fails session event fault so_far → ⊥
+done_and_failed : (Gives : Ask → List ℕ → Type 0) (Fails : Ask → BenchFault → Type 0) (session : Session) (keys : List (List ℕ × List ℕ)) (trace so_far : List ℕ) (answers : List (ℕ × List ℕ)) (bytes : List ℕ) (event : ℕ) (fault : BenchFault) → IsFixed Gives Fails → IsRisingDone Gives session keys trace answers bytes → IsRisingFailed Gives Fails session event fault so_far → ⊥
 done_and_failed Gives Fails session keys trace so_far answers bytes event fault f a b =
     let given = answered_among Gives (session_questions session) answers event b.asked.0 a.answered b.asked.1 in
     f.not_both b.asked.0 given.0 fault given.1 b.asked.2
 
-failed_later : (Gives : Ask → List ℕ → Type 0) (Fails : Ask → BenchFault → Type 0) (session : Session) (event later : ℕ) (fault other : BenchFault) (trace again : List ℕ) → IsFixed Gives Fails → event < later → IsFailed Gives Fails session event fault trace → IsFailed Gives Fails session later other again → ⊥
+failed_later : (Gives : Ask → List ℕ → Type 0) (Fails : Ask → BenchFault → Type 0) (session : Session) (event later : ℕ) (fault other : BenchFault) (trace again : List ℕ) → IsFixed Gives Fails → event < later → IsRisingFailed Gives Fails session event fault trace → IsRisingFailed Gives Fails session later other again → ⊥
 failed_later Gives Fails session event later fault other trace again f l a b =
     let given = answered_before Gives (session_questions session) event later a.asked.0 l b.before a.asked.1 in
     f.not_both a.asked.0 given.0 fault given.1 a.asked.2
@@ -75,7 +75,7 @@ failed_later Gives Fails session event later fault other trace again f l a b =
 same_some : {A : Type 0} (a b : A) → Some a ≡ Some b → a ≡ b
 same_some a b h = cc
 
-failed_there : (Gives : Ask → List ℕ → Type 0) (Fails : Ask → BenchFault → Type 0) (session : Session) (event same : ℕ) (fault other : BenchFault) (trace again : List ℕ) → IsFixed Gives Fails → event ≡ same → IsFailed Gives Fails session event fault trace → IsFailed Gives Fails session same other again → failed event fault trace ≡ failed same other again
+failed_there : (Gives : Ask → List ℕ → Type 0) (Fails : Ask → BenchFault → Type 0) (session : Session) (event same : ℕ) (fault other : BenchFault) (trace again : List ℕ) → IsFixed Gives Fails → event ≡ same → IsRisingFailed Gives Fails session event fault trace → IsRisingFailed Gives Fails session same other again → failed event fault trace ≡ failed same other again
 failed_there Gives Fails session event same fault other trace again f e a b =
     let asked = same_some a.asked.0 b.asked.0 (sym a.asked.1 ∙ ap (λ (n : ℕ). question_among (session_questions session) n) e ∙ b.asked.1) in
     let faults = f.one_fault b.asked.0 fault other (subst (λ (ask : Ask). Fails ask fault) asked a.asked.2) b.asked.2 in
@@ -84,7 +84,7 @@ failed_there Gives Fails session event same fault other trace again f e a b =
     ∙ ap (λ (found : BenchFault). failed same found trace) faults
     ∙ ap (λ (t : List ℕ). failed same other t) traces
 
-failed_twice : (Gives : Ask → List ℕ → Type 0) (Fails : Ask → BenchFault → Type 0) (session : Session) (event same : ℕ) (fault other : BenchFault) (trace again : List ℕ) → IsFixed Gives Fails → (event ≡ same) ⊎ ((event < same) ⊎ (same < event)) → IsFailed Gives Fails session event fault trace → IsFailed Gives Fails session same other again → failed event fault trace ≡ failed same other again
+failed_twice : (Gives : Ask → List ℕ → Type 0) (Fails : Ask → BenchFault → Type 0) (session : Session) (event same : ℕ) (fault other : BenchFault) (trace again : List ℕ) → IsFixed Gives Fails → (event ≡ same) ⊎ ((event < same) ⊎ (same < event)) → IsRisingFailed Gives Fails session event fault trace → IsRisingFailed Gives Fails session same other again → failed event fault trace ≡ failed same other again
 failed_twice Gives Fails session event same fault other trace again f (inl e) a b =
     failed_there Gives Fails session event same fault other trace again f e a b
 failed_twice Gives Fails session event same fault other trace again f (inr (inl l)) a b =

@@ -13,7 +13,7 @@ use Rattle.bench_trait.specs.declared.ask.AskKind.TheVariants.{Usm, Kim}
 use Rattle.bench_trait.specs.declared.bench.BenchFault.{BenchFault}
 use Rattle.event_system.specs.Order.{IsBefore}
 use Rattle.event_system.specs.Trace.{MayFollow, IsTraceSoFar}
-use Rattle.session_model.specs.Record.{Record, done, failed, numbers_below, AreAnsweredBefore, IsDone, IsFailed, IsRisingRecord}
+use Rattle.session_model.specs.Record.{Record, done, failed, numbers_below, AreAnsweredBefore, IsRisingDone, IsRisingFailed, IsRisingRecord}
 use Rattle.session_model.specs.RightRecord.{AreAnsweredIn, IsRightDone, IsRightFailed, IsRightRecord}
 use Rattle.session_model.specs.Session.{Session, session_questions}
 use Rattle.plain_eval.proofs.FixedLemmas.{of_found}
@@ -116,7 +116,7 @@ module _
 
     -- ---- the records
 
-    right_done : (Gives : Ask → List ℕ → Type 0) (session : Session) (keys : List (List ℕ × List ℕ)) (trace : List ℕ) (answers : List (ℕ × List ℕ)) (bytes : List ℕ) → IsDone Gives session keys trace answers bytes → IsRightDone Gives session keys trace answers bytes
+    right_done : (Gives : Ask → List ℕ → Type 0) (session : Session) (keys : List (List ℕ × List ℕ)) (trace : List ℕ) (answers : List (ℕ × List ℕ)) (bytes : List ℕ) → IsRisingDone Gives session keys trace answers bytes → IsRightDone Gives session keys trace answers bytes
     right_done Gives session keys trace answers bytes d = record {
       answered = d.answered;
       traced = record {
@@ -130,7 +130,7 @@ module _
     answered_in Gives event [] b = tt
     answered_in Gives event (ask ∷ asks) b = (λ c. b.0 (in_below event ask.event c), answered_in Gives event asks b.1)
 
-    right_failed : (Gives : Ask → List ℕ → Type 0) (Fails : Ask → BenchFault → Type 0) (session : Session) (event : ℕ) (fault : BenchFault) (trace : List ℕ) → IsFailed Gives Fails session event fault trace → IsRightFailed Gives Fails session event fault trace
+    right_failed : (Gives : Ask → List ℕ → Type 0) (Fails : Ask → BenchFault → Type 0) (session : Session) (event : ℕ) (fault : BenchFault) (trace : List ℕ) → IsRisingFailed Gives Fails session event fault trace → IsRightFailed Gives Fails session event fault trace
     right_failed Gives Fails session event fault trace f =
         let event_fits : event ≤ event_count session.phrase = omega (arith, asked_below session event f.asked.0 f.asked.1) in
         record {

@@ -1,3 +1,5 @@
+pub mod Sessions
 pub mod Events
 pub mod Walk
+pub mod Records
 pub mod Refusal

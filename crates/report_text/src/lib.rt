@@ -5,10 +5,14 @@
 mod events;
 mod inline_line;
 mod line;
+mod record;
 mod refusal;
+mod session;
 #[cfg(test)]
 mod tests;
 
 pub use events::events_text;
 pub use inline_line::Line;
+pub use record::{records_text, values_text};
 pub use refusal::{Refusal, refusal_line};
+pub use session::{push_check, push_code, push_events, push_shape};

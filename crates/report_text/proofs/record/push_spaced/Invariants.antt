@@ -1,7 +1,7 @@
 -- What was written and what is to come is the whole.
 use Rattle.std.proofs.Common.{◌≡◌, ◌++◌, drop}
-use Rattle.copland_cli.specs.Report.{spaced}
-use Rattle.copland_cli.proofs.report.push_spaced.Given as goal
+use Rattle.report_text.specs.Records.{spaced}
+use Rattle.report_text.proofs.record.push_spaced.Given as goal
 
 abbrev pub invariant-loop-number : goal.invariant-loop-number
 invariant-loop-number l =

@@ -5,7 +5,7 @@ use byte_ports::Bytes;
 use evidence_types::Answers;
 use phrase_tree::Trace;
 
-/// What is recorded of a session.
+/// What is recorded of a session. `recorded` gives the record of the definitions that it stands for.
 #[derive(Debug, Drop)]
 pub enum Record {
     Done(DoneRecord),
@@ -29,8 +29,8 @@ pub struct FailRecord {
 }
 
 impl Record {
-    ghost use Rattle.copland_cli.specs.Recorded.{recorded};
-    ghost use Rattle.copland_cli.specs.Reported.{is_failed};
+    ghost use Rattle.session_model.specs.Record.{is_failed};
+    ghost use Rattle.session_model.specs.Recorded.{recorded};
 
     /// Whether the session failed.
     pub fn is_failed(&self) -> bool

@@ -1,0 +1,12 @@
+-- The records so far become those of all sessions by any records of those that are left.
+use Rattle.std.proofs.Common.{◌≡◌, drop}
+use Rattle.std.specs.Prelude.{map}
+use Rattle.place_check.specs.Places.{keys_of}
+use Rattle.place_check.specs.Session.{session_of}
+use Rattle.session_model.specs.Recorded.{recorded}
+use Rattle.copland_cli.proofs.RecordLemmas.{BecomeWhole}
+use Rattle.copland_cli.proofs.session.records_of.Given as goal
+
+abbrev pub invariant-loop-checked : goal.invariant-loop-checked
+invariant-loop-checked g l =
+    BecomeWhole (g.B.Bench.gives l.bench l.job.artefacts) (g.B.Bench.fails l.bench l.job.artefacts) (keys_of l.job.places) (map session_of l.job.sessions.items) (map session_of (drop l.checked-index l.job.sessions.items)) (map recorded l.records.items)
