@@ -1,6 +1,5 @@
 use crate::status::Status;
-use crate::tests::{WHOLE, expect_run};
-use std::alloc::Global;
+use crate::test_runs::expect_each;
 use std::test::Fail;
 
 // What the program says of two whole jobs. The reports were made by an independent program in another
@@ -48,22 +47,9 @@ const FOUR_EVAL: &str =
 const FOUR_WALK_0: &str =
     "session 0 done\ntrace 0 1\nanswer 0 ef1697f6baa17ed070c8baccaee10f159fc069a3018fee9ed7127ad070869b7b\nbundle 43504c42010000005d0400000001b7e44129a53779ae0ea91fb1824cea17cdb322489aa3f78a4043354a69f5507e02000000000020ef1697f6baa17ed070c8baccaee10f159fc069a3018fee9ed7127ad070869b7b01000102030405060708090a0b0c0d0e0f\nsession 1 done\ntrace 0 1\nanswer 0 ef1697f6baa17ed070c8baccaee10f159fc069a3018fee9ed7127ad070869b7b\nbundle 43504c42010000005d04000000017aaaa0059d1c3bed7eed19c173ffe385cbf74e5a2c8d14431266a0af9c37c3bc02000000000020ef1697f6baa17ed070c8baccaee10f159fc069a3018fee9ed7127ad070869b7b01100102030405060708090a0b0c0d0e0f\nsession 2 done\ntrace 0 1 2 3 4 5 6\nbundle 43504c42010000001101200102030405060708090a0b0c0d0e0f\nsession 3 failed 1 no-artefact\ntrace 0\n";
 
-fn expect_reports(
-    rt: &impl std::process::Abort,
-    alloc: Global,
-    job: &str,
-    table: &[(&str, Status, &str)],
-) -> Result<(), Fail> {
-    for (words, status, report) in table {
-        let want = (*status, *report);
-        expect_run(rt, alloc, words, job.as_bytes(), &WHOLE, want)?;
-    }
-    Ok(())
-}
-
 #[test]
 fn the_bank_job_is_reported(rt: HostRuntime) -> Result<(), Fail> {
-    expect_reports(
+    expect_each(
         &rt,
         rt.alloc(),
         BANK,
@@ -82,7 +68,7 @@ fn the_bank_job_is_reported(rt: HostRuntime) -> Result<(), Fail> {
 // third asks back and forth between two places. The fourth fails at a measurement in its left arm.
 #[test]
 fn four_sessions_are_reported(rt: HostRuntime) -> Result<(), Fail> {
-    expect_reports(
+    expect_each(
         &rt,
         rt.alloc(),
         FOUR_SESSIONS,

@@ -16,6 +16,8 @@ mod refusal_tests;
 mod session;
 mod status;
 #[cfg(test)]
+mod test_runs;
+#[cfg(test)]
 mod tests;
 mod top;
 mod walk;

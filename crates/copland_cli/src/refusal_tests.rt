@@ -1,5 +1,5 @@
 use crate::status::Status;
-use crate::tests::{JOB_HEAD, WHOLE, expect_front, expect_run, job_of};
+use crate::test_runs::{WHOLE, chain_of, expect_front, expect_run, job_of};
 use std::alloc::Global;
 use std::process::Abort;
 use std::test::Fail;
@@ -18,63 +18,102 @@ fn expect_refused(
     job: &str,
     want: (Status, &str),
 ) -> Result<(), Fail> {
-    expect_run(rt, alloc, "check", job.as_bytes(), &WHOLE, want)?;
-    expect_run(rt, alloc, "walk 0", job.as_bytes(), &WHOLE, want)
+    expect_run(rt, alloc, "check", job, &WHOLE, want)?;
+    expect_run(rt, alloc, "walk 0", job, &WHOLE, want)
 }
 
-#[test]
-fn faults_of_form_are_refused(rt: HostRuntime) -> Result<(), Fail> {
-    let alloc = rt.alloc();
-    for (input, want) in [
-        ("", (Status::NotJson, "error: not json\n")),
-        ("{", (Status::NotJson, "error: not json\n")),
-        ("[]", (Status::BadJob, "error: job $ wrong-kind\n")),
-        ("{}", (Status::BadJob, "error: job $.places missing\n")),
-    ] {
-        expect_refused(&rt, alloc, input, want)?;
+fn expect_inputs(
+    rt: &impl Abort,
+    alloc: Global,
+    table: &[(&str, (Status, &str))],
+) -> Result<(), Fail> {
+    for (input, want) in table {
+        expect_refused(rt, alloc, input, *want)?;
     }
-    let first_key = "\"key\":\"000102030405060708090a0b0c0d0e0f\"";
-    for (from, to, want) in [
-        (
-            first_key,
-            "\"key\":\"00\"",
-            "error: job $.places[0].key out-of-range\n",
-        ),
-        (
-            first_key,
-            "\"key\":\"0g\"",
-            "error: job $.places[0].key bad-hex\n",
-        ),
-        (
-            first_key,
-            "\"key\":7",
-            "error: job $.places[0].key wrong-kind\n",
-        ),
-        (
-            "\"asks\":[\"q\"]",
-            "\"asks\":[\"q\",\"Q\"]",
-            "error: job $.places[0].asks[1] bad-name\n",
-        ),
-        (
-            "\"phrase\":\"CPY\"",
-            "\"phrase\":\"CPY\",\"x\":1",
-            "error: job $.sessions[0] unknown\n",
-        ),
-        (
-            ",\"phrase\":\"CPY\"",
-            "",
-            "error: job $.sessions[0].phrase missing\n",
-        ),
-    ] {
+    Ok(())
+}
+
+/// Puts one text into the job in place of another, for each row.
+fn expect_changed(
+    rt: &impl Abort,
+    alloc: Global,
+    table: &[(&str, &str, Status, &str)],
+) -> Result<(), Fail> {
+    for (from, to, status, line) in table {
         let job = COPYING.replacen(alloc, from, to, 1)?;
-        expect_refused(&rt, alloc, job.as_str(), (Status::BadJob, want))?;
+        expect_refused(rt, alloc, job.as_str(), (*status, *line))?;
+    }
+    Ok(())
+}
+
+/// Refuses a job of each phrase so.
+fn expect_phrases(
+    rt: &impl Abort,
+    alloc: Global,
+    status: Status,
+    table: &[(&str, &str)],
+) -> Result<(), Fail> {
+    for (phrase, line) in table {
+        let job = job_of(alloc, phrase)?;
+        expect_refused(rt, alloc, job.as_str(), (status, *line))?;
     }
     Ok(())
 }
 
 #[test]
-fn repeats_and_bad_roots_are_refused(rt: HostRuntime) -> Result<(), Fail> {
+fn faults_of_form_are_refused(rt: HostRuntime) -> Result<(), Fail> {
     let alloc = rt.alloc();
+    let inputs = [
+        ("", (Status::NotJson, "error: not json\n")),
+        ("{", (Status::NotJson, "error: not json\n")),
+        ("[]", (Status::BadJob, "error: job $ wrong-kind\n")),
+        ("{}", (Status::BadJob, "error: job $.places missing\n")),
+    ];
+    expect_inputs(&rt, alloc, &inputs)?;
+    let first_key = "\"key\":\"000102030405060708090a0b0c0d0e0f\"";
+    let table = [
+        (
+            first_key,
+            "\"key\":\"00\"",
+            Status::BadJob,
+            "error: job $.places[0].key out-of-range\n",
+        ),
+        (
+            first_key,
+            "\"key\":\"0g\"",
+            Status::BadJob,
+            "error: job $.places[0].key bad-hex\n",
+        ),
+        (
+            first_key,
+            "\"key\":7",
+            Status::BadJob,
+            "error: job $.places[0].key wrong-kind\n",
+        ),
+        (
+            "\"asks\":[\"q\"]",
+            "\"asks\":[\"q\",\"Q\"]",
+            Status::BadJob,
+            "error: job $.places[0].asks[1] bad-name\n",
+        ),
+        (
+            "\"phrase\":\"CPY\"",
+            "\"phrase\":\"CPY\",\"x\":1",
+            Status::BadJob,
+            "error: job $.sessions[0] unknown\n",
+        ),
+        (
+            ",\"phrase\":\"CPY\"",
+            "",
+            Status::BadJob,
+            "error: job $.sessions[0].phrase missing\n",
+        ),
+    ];
+    expect_changed(&rt, alloc, &table)
+}
+
+#[test]
+fn repeats_and_bad_roots_are_refused(rt: HostRuntime) -> Result<(), Fail> {
     let session =
         "{\"root\":\"bank\",\"nonce\":\"000102030405060708090a0b0c0d0e0f\",\"phrase\":\"CPY\"}";
     let three =
@@ -83,7 +122,7 @@ fn repeats_and_bad_roots_are_refused(rt: HostRuntime) -> Result<(), Fail> {
         "\"artefacts\":[{\"place\":\"q\",\"name\":\"a\",\"bytes\":\"\"},{\"place\":\"bank\",\"name\":\"a\",\"bytes\":\"\"},{\"place\":\"q\",\"name\":\"a\",\"bytes\":\"00\"}],\"sessions\"";
     let references =
         "\"references\":[{\"place\":\"bank\",\"asp\":\"a\",\"args\":[1],\"answer\":\"aa\"},{\"place\":\"bank\",\"asp\":\"a\",\"answer\":\"aa\"},{\"place\":\"bank\",\"target\":\"q\",\"asp\":\"a\",\"args\":[1],\"answer\":\"aa\"},{\"place\":\"bank\",\"asp\":\"a\",\"args\":[1],\"answer\":\"aa\"}],\"sessions\"";
-    for (from, to, status, want) in [
+    let table = [
         (
             "\"name\":\"q\"",
             "\"name\":\"bank\"",
@@ -114,17 +153,14 @@ fn repeats_and_bad_roots_are_refused(rt: HostRuntime) -> Result<(), Fail> {
             Status::RepeatedNonce,
             "error: repeated nonce 0 2\n",
         ),
-    ] {
-        let job = COPYING.replacen(alloc, from, to, 1)?;
-        expect_refused(&rt, alloc, job.as_str(), (status, want))?;
-    }
-    Ok(())
+    ];
+    expect_changed(&rt, rt.alloc(), &table)
 }
 
 #[test]
 fn phrases_and_events_are_refused(rt: HostRuntime) -> Result<(), Fail> {
     let alloc = rt.alloc();
-    for (phrase, want) in [
+    let table = [
         ("", "error: phrase 0 0 expected\n"),
         ("USM scan -> ", "error: phrase 0 12 expected\n"),
         ("CPY CPY", "error: phrase 0 4 trailing\n"),
@@ -133,127 +169,105 @@ fn phrases_and_events_are_refused(rt: HostRuntime) -> Result<(), Fail> {
         ("USM a 007", "error: phrase 0 6 word\n"),
         ("USM a 4294967296", "error: phrase 0 6 number-too-large\n"),
         ("USM a b c d e f", "error: phrase 0 14 too-many-args\n"),
-    ] {
-        let job = job_of(alloc, phrase)?;
-        expect_refused(&rt, alloc, job.as_str(), (Status::BadPhrase, want))?;
-    }
-    for (phrase, want) in [
+    ];
+    expect_phrases(&rt, alloc, Status::BadPhrase, &table)?;
+    let table = [
         ("@q [USM a]", "error: misplaced 0 1 not-offered\n"),
         ("@q [@bank [CPY]]", "error: misplaced 0 1 may-not-ask\n"),
         ("@zz [CPY] -> USM x", "error: misplaced 0 0 unknown-place\n"),
         ("KIM bank scan", "error: misplaced 0 0 may-not-see\n"),
-    ] {
-        let job = job_of(alloc, phrase)?;
-        expect_refused(&rt, alloc, job.as_str(), (Status::Misplaced, want))?;
-    }
-    Ok(())
+    ];
+    expect_phrases(&rt, alloc, Status::Misplaced, &table)
 }
 
-/// A job whose phrase is this part a number of times, joined by arrows, followed by a text.
-fn repeated(alloc: Global, parts: &[(&str, usize)], rest: &str) -> Result<String, Fail> {
-    let mut job = String::from_str(alloc, JOB_HEAD)?;
-    let mut arrow = "";
-    for (part, times) in parts {
-        for _ in 0..*times {
-            job.push_str(arrow)?;
-            job.push_str(part)?;
-            arrow = " -> ";
-        }
-    }
-    job.push_str(rest)?;
-    job.push_str("\"}]}")?;
-    Ok(job)
+/// A job of the phrase `CPY` in this many brackets.
+fn bracketed(alloc: Global, depth: usize) -> Result<String, Fail> {
+    let mut phrase = "(".repeat(alloc, depth)?;
+    phrase.push_str("CPY")?;
+    phrase.push_str(")".repeat(alloc, depth)?.as_str())?;
+    job_of(alloc, phrase.as_str())
+}
+
+/// A job of the phrase `CPY` with this many spaces behind it.
+fn spaced(alloc: Global, count: usize) -> Result<String, Fail> {
+    let mut phrase = String::from_str(alloc, "CPY")?;
+    phrase.push_str(" ".repeat(alloc, count)?.as_str())?;
+    job_of(alloc, phrase.as_str())
 }
 
 #[test]
 fn limits_of_a_phrase_are_met_and_passed(rt: HostRuntime) -> Result<(), Fail> {
     let alloc = rt.alloc();
     // Open brackets: 64, and one more.
-    for (depth, want) in [
-        (
-            64,
-            (
-                Status::Good,
-                "session 0 ok events 1 weight 17\nphrase CPY\n",
-            ),
-        ),
-        (65, (Status::BadPhrase, "error: phrase 0 64 too-deep\n")),
-    ] {
-        let mut phrase = "(".repeat(alloc, depth)?;
-        phrase.push_str("CPY")?;
-        phrase.push_str(")".repeat(alloc, depth)?.as_str())?;
-        let job = job_of(alloc, phrase.as_str())?;
-        expect_run(&rt, alloc, "check", job.as_bytes(), &WHOLE, want)?;
-    }
-    // Events: 2,048, and one more.
-    let most = repeated(alloc, &[("CPY", 2048)], "")?;
-    expect_front(
-        &rt,
-        alloc,
-        "check",
-        most.as_bytes(),
-        "session 0 ok events 2048 weight 17\n",
-    )?;
-    let more = repeated(alloc, &[("CPY", 2049)], "")?;
-    let want = (Status::BadPhrase, "error: phrase 0 14336 too-many-events\n");
-    expect_refused(&rt, alloc, more.as_str(), want)?;
-    // Bytes: 65,536, and one more.
-    let spaces = " ".repeat(alloc, 65533)?;
-    let filled = repeated(alloc, &[("CPY", 1)], spaces.as_str())?;
-    expect_front(
-        &rt,
-        alloc,
-        "check",
-        filled.as_bytes(),
-        "session 0 ok events 1 weight 17\n",
-    )?;
-    let spaces = " ".repeat(alloc, 65537)?;
-    let long = job_of(alloc, spaces.as_str())?;
-    let want = (Status::BadPhrase, "error: phrase 0 65536 too-long\n");
-    expect_refused(&rt, alloc, long.as_str(), want)
+    let copy = "session 0 ok events 1 weight 17\nphrase CPY\n";
+    expect_front(&rt, alloc, &["check"], bracketed(alloc, 64)?.as_str(), copy)?;
+    let deep = (Status::BadPhrase, "error: phrase 0 64 too-deep\n");
+    expect_refused(&rt, alloc, bracketed(alloc, 65)?.as_str(), deep)?;
+    // Bytes: 65,536, and more.
+    expect_front(&rt, alloc, &["check"], spaced(alloc, 65533)?.as_str(), copy)?;
+    let long = (Status::BadPhrase, "error: phrase 0 65536 too-long\n");
+    expect_refused(&rt, alloc, spaced(alloc, 65534)?.as_str(), long)
+}
+
+/// The front of the report of `check` on a job of a chain of parts.
+fn expect_light(
+    rt: &impl Abort,
+    alloc: Global,
+    parts: &[(&str, u32)],
+    front: &str,
+) -> Result<(), Fail> {
+    let job = job_of(alloc, chain_of(alloc, parts)?.as_str())?;
+    expect_front(rt, alloc, &["check"], job.as_str(), front)
+}
+
+/// The refusal of a job of a chain of parts.
+fn expect_beyond(
+    rt: &impl Abort,
+    alloc: Global,
+    parts: &[(&str, u32)],
+    want: (Status, &str),
+) -> Result<(), Fail> {
+    let job = job_of(alloc, chain_of(alloc, parts)?.as_str())?;
+    expect_refused(rt, alloc, job.as_str(), want)
+}
+
+// The chains of 1,024 `SIG` and of 2,048 `CPY` stand among the reports.
+#[test]
+fn limits_of_events_and_nest_are_passed(rt: HostRuntime) -> Result<(), Fail> {
+    let alloc = rt.alloc();
+    let many = (Status::BadPhrase, "error: phrase 0 14336 too-many-events\n");
+    expect_beyond(&rt, alloc, &[("CPY", 2049)], many)?;
+    let nested = (Status::Oversize, "error: oversize 0 1024\n");
+    expect_beyond(&rt, alloc, &[("SIG", 1025)], nested)
 }
 
 #[test]
-fn limits_of_weight_are_met_and_passed(rt: HostRuntime) -> Result<(), Fail> {
+fn limits_of_weight_are_met(rt: HostRuntime) -> Result<(), Fail> {
     let alloc = rt.alloc();
-    let heavy = repeated(alloc, &[("USM a", 254)], "")?;
-    expect_front(
-        &rt,
-        alloc,
-        "check",
-        heavy.as_bytes(),
-        "session 0 ok events 254 weight 261891\n",
-    )?;
-    let full = repeated(alloc, &[("USM a", 233), ("SIG", 592)], "")?;
-    expect_front(
-        &rt,
-        alloc,
-        "check",
-        full.as_bytes(),
-        "session 0 ok events 825 weight 262144\n",
-    )?;
-    let pairs = [("USM a", 233), ("SIG", 591), ("(CPY -<+ CPY)", 18)];
-    let joined = repeated(alloc, &pairs, "")?;
-    expect_front(
-        &rt,
-        alloc,
-        "check",
-        joined.as_bytes(),
-        "session 0 ok events 896 weight 262143\n",
-    )?;
-    let pairs = [("USM a", 233), ("SIG", 591), ("(CPY -<+ CPY)", 19)];
-    for (parts, rest, want) in [
-        (&[("USM a", 255)][..], "", "error: oversize 0 254\n"),
-        (
-            &[("USM a", 233), ("SIG", 593)][..],
-            "",
-            "error: oversize 0 825\n",
-        ),
-        (&pairs[..], "", "error: oversize 0 899\n"),
-        (&pairs[..], " -> HSH", "error: oversize 0 899\n"),
-    ] {
-        let job = repeated(alloc, parts, rest)?;
-        expect_refused(&rt, alloc, job.as_str(), (Status::Oversize, want))?;
-    }
-    Ok(())
+    let heavy = "session 0 ok events 254 weight 261891\n";
+    expect_light(&rt, alloc, &[("USM a", 254)], heavy)?;
+    let full = "session 0 ok events 825 weight 262144\n";
+    expect_light(&rt, alloc, &[("USM a", 233), ("SIG", 592)], full)?;
+    let joined = "session 0 ok events 896 weight 262143\n";
+    let parts = [("USM a", 233), ("SIG", 591), ("(CPY -<+ CPY)", 18)];
+    expect_light(&rt, alloc, &parts, joined)
+}
+
+#[test]
+fn limits_of_weight_are_passed(rt: HostRuntime) -> Result<(), Fail> {
+    let alloc = rt.alloc();
+    let measured = (Status::Oversize, "error: oversize 0 254\n");
+    expect_beyond(&rt, alloc, &[("USM a", 255)], measured)?;
+    let sealed = (Status::Oversize, "error: oversize 0 825\n");
+    expect_beyond(&rt, alloc, &[("USM a", 233), ("SIG", 593)], sealed)?;
+    let joined = (Status::Oversize, "error: oversize 0 899\n");
+    let parts = [("USM a", 233), ("SIG", 591), ("(CPY -<+ CPY)", 19)];
+    expect_beyond(&rt, alloc, &parts, joined)?;
+    let parts = [
+        ("USM a", 233),
+        ("SIG", 591),
+        ("(CPY -<+ CPY)", 19),
+        ("HSH", 1),
+    ];
+    expect_beyond(&rt, alloc, &parts, joined)
 }

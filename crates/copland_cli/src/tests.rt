@@ -1,102 +1,30 @@
 use crate::laws::{commands_are_decisive, reports_follow_from_bytes};
 use crate::status::Status;
-use crate::top::plain_top;
-use bench_trait::{Bench, BenchFault, DigestBench, TableBench, TableResult, TableRow};
-use byte_ports::{Behaviour, MemSink, MemSource};
+use crate::test_runs::{
+    Ports, WHOLE, chain_of, expect_each, expect_front, expect_run, expect_with, job_of,
+};
+use bench_trait::{BenchFault, DigestBench, TableBench, TableResult, TableRow};
 use evidence_types::Answer;
 use std::alloc::Global;
+use std::process::Abort;
 use std::test::Fail;
 
-const NO_CALLS: [u64; 0] = [];
-
-/// A job of one session with this phrase.
-pub fn job_of(alloc: Global, phrase: &str) -> Result<String, Fail> {
-    let mut job = String::from_str(alloc, JOB_HEAD)?;
-    job.push_str(phrase)?;
-    job.push_str("\"}]}")?;
-    Ok(job)
-}
-
-pub const JOB_HEAD: &str =
-    "{\"places\":[{\"name\":\"bank\",\"key\":\"000102030405060708090a0b0c0d0e0f\",\"asks\":[\"q\"],\"sees\":[\"q\"],\"offers\":[\"scan\",\"a\",\"b\"]},{\"name\":\"q\",\"key\":\"101112131415161718191a1b1c1d1e1f\",\"offers\":[\"scan\"]}],\"sessions\":[{\"root\":\"bank\",\"nonce\":\"000102030405060708090a0b0c0d0e0f\",\"phrase\":\"";
-
-const COPIED: &str =
-    "session 0 done\ntrace 0\nbundle 43504c42010000001101000102030405060708090a0b0c0d0e0f\n";
-
-/// Ports of a run: the greatest size of a call, and the calls that fail.
-#[derive(Drop)]
-pub struct Ports<'a> {
-    source_most: usize,
-    source_failing: &'a [u64],
-    sink_most: usize,
-    sink_failing: &'a [u64],
-}
-
-pub const WHOLE: Ports<'static> = Ports {
-    source_most: 65536,
-    source_failing: &NO_CALLS,
-    sink_most: 65536,
-    sink_failing: &NO_CALLS,
-};
-
-/// Runs the program on the input, and checks its status and what it wrote.
-pub fn expect_run(
-    rt: &impl std::process::Abort,
+fn expect_words(
+    rt: &impl Abort,
     alloc: Global,
-    words: &str,
-    input: &[u8],
-    ports: &Ports<'_>,
+    table: &[&str],
     want: (Status, &str),
 ) -> Result<(), Fail> {
-    expect_with(rt, alloc, words, input, ports, &DigestBench, want)
-}
-
-/// The same with this bench.
-fn expect_with<B: Bench>(
-    rt: &impl std::process::Abort,
-    alloc: Global,
-    words: &str,
-    input: &[u8],
-    ports: &Ports<'_>,
-    bench: &B,
-    want: (Status, &str),
-) -> Result<(), Fail> {
-    let mut list = Vec::new(alloc);
-    for word in words.split(' ') {
-        if !word.is_empty() {
-            list.push(String::from_str(alloc, word)?)?;
-        }
+    for words in table {
+        expect_run(rt, alloc, words, "", &WHOLE, want)?;
     }
-    let failing = Vec::from_slice(alloc, ports.source_failing)?;
-    let mut source = MemSource::of(
-        Vec::from_slice(alloc, input)?,
-        Behaviour::of(ports.source_most.max(1), failing),
-    );
-    let failing = Vec::from_slice(alloc, ports.sink_failing)?;
-    let mut sink = MemSink::of(alloc, Behaviour::of(ports.sink_most.max(1), failing));
-    let status = plain_top(alloc, list.as_slice(), &mut source, &mut sink, bench);
-    assert_eq!(rt; status, want.0, "at the words {words}");
-    assert_eq!(rt; sink.taken(), want.1.as_bytes(), "at the words {words}");
     Ok(())
-}
-
-/// A row of a bench for the nonce of `job_of`.
-fn row(event: u32, found: TableResult) -> TableRow {
-    TableRow {
-        nonce: [0, 1, 2, 3, 4, 5, 6, 7, 8, 9, 10, 11, 12, 13, 14, 15],
-        event,
-        outcome: found,
-    }
-}
-
-fn answer(rt: &impl std::process::Abort, bytes: &[u8]) -> TableResult {
-    TableResult::Answer(Answer::of(bytes).expect(rt, "a short answer"))
 }
 
 #[test]
 fn words_are_told_apart(rt: HostRuntime) -> Result<(), Fail> {
     let alloc = rt.alloc();
-    for words in [
+    let wrong = [
         "",
         "walk",
         "walk 01",
@@ -110,30 +38,21 @@ fn words_are_told_apart(rt: HostRuntime) -> Result<(), Fail> {
         "Walk 0",
         "load",
         "--help",
-    ] {
-        let want = (Status::BadWords, "error: words\n");
-        expect_run(&rt, alloc, words, b"", &WHOLE, want)?;
-    }
-    for words in ["appraise", "walk 1", "walk 4294967295", "load 0"] {
-        let want = (Status::Unbuilt, "error: unbuilt\n");
-        expect_run(&rt, alloc, words, b"", &WHOLE, want)?;
-    }
-    Ok(())
+    ];
+    expect_words(&rt, alloc, &wrong, (Status::BadWords, "error: words\n"))?;
+    let unbuilt = ["appraise", "walk 1", "walk 4294967295", "load 0"];
+    expect_words(&rt, alloc, &unbuilt, (Status::Unbuilt, "error: unbuilt\n"))
 }
 
 /// Runs each of these words on the job of one session with the phrase.
 fn expect_all(
-    rt: &impl std::process::Abort,
+    rt: &impl Abort,
     alloc: Global,
     phrase: &str,
     table: &[(&str, Status, &str)],
 ) -> Result<(), Fail> {
     let job = job_of(alloc, phrase)?;
-    for (words, status, report) in table {
-        let want = (*status, *report);
-        expect_run(rt, alloc, words, job.as_bytes(), &WHOLE, want)?;
-    }
-    Ok(())
+    expect_each(rt, alloc, job.as_str(), table)
 }
 
 // The reports were worked by hand from the formats; the seals and hashes are those of Python's hmac and
@@ -264,249 +183,235 @@ const ASKED_CODE: &str =
 const HASHED: &str =
     "session 0 done\nbundle 43504c4201000000250500000004eeb3e2ab6a60f3b47e374422806ba61f40312d27ba55f9b494ccdd9838f26a69\n";
 
-/// A chain of the same leaf, this many times.
-fn chain_of(alloc: Global, leaf: &str, count: u32) -> Result<String, Fail> {
-    let mut phrase = String::from_str(alloc, leaf)?;
-    for _ in 1..count {
-        phrase.push_str(" -> ")?;
-        phrase.push_str(leaf)?;
-    }
-    Ok(phrase)
+/// Runs every command on a job of this chain.
+fn expect_chain(
+    rt: &impl Abort,
+    alloc: Global,
+    leaf: &str,
+    count: u32,
+    head: &str,
+) -> Result<(), Fail> {
+    let phrase = chain_of(alloc, &[(leaf, count)])?;
+    let job = job_of(alloc, phrase.as_str())?;
+    let mut want = String::from_str(alloc, head)?;
+    want.push_str(phrase.as_str())?;
+    want.push_str("\n")?;
+    let good = (Status::Good, want.as_str());
+    expect_run(rt, alloc, "check", job.as_str(), &WHOLE, good)?;
+    let others = ["shape", "events", "code", "eval", "walk 0"];
+    expect_front(rt, alloc, &others, job.as_str(), "session 0 ")
 }
 
 // The deepest evidence, and the chain of the most events.
 #[test]
 fn the_longest_chains_are_reported(rt: HostRuntime) -> Result<(), Fail> {
     let alloc = rt.alloc();
-    for (leaf, count, head) in [
-        (
-            "SIG",
-            1024,
-            "session 0 ok events 1024 weight 37905\nphrase ",
-        ),
-        ("CPY", 2048, "session 0 ok events 2048 weight 17\nphrase "),
-    ] {
-        let phrase = chain_of(alloc, leaf, count)?;
-        let job = job_of(alloc, phrase.as_str())?;
-        let mut want = String::from_str(alloc, head)?;
-        want.push_str(phrase.as_str())?;
-        want.push_str("\n")?;
-        let good = (Status::Good, want.as_str());
-        expect_run(&rt, alloc, "check", job.as_bytes(), &WHOLE, good)?;
-        for words in ["shape", "events", "code", "eval", "walk 0"] {
-            expect_front(&rt, alloc, words, job.as_bytes(), "session 0 ")?;
-        }
-    }
-    for (leaf, count, want) in [
-        ("SIG", 1025, (Status::Oversize, "error: oversize 0 1024\n")),
-        (
-            "CPY",
-            2049,
-            (Status::BadPhrase, "error: phrase 0 14336 too-many-events\n"),
-        ),
-    ] {
-        let phrase = chain_of(alloc, leaf, count)?;
-        let job = job_of(alloc, phrase.as_str())?;
-        expect_run(&rt, alloc, "check", job.as_bytes(), &WHOLE, want)?;
-    }
-    Ok(())
+    let deepest = "session 0 ok events 1024 weight 37905\nphrase ";
+    expect_chain(&rt, alloc, "SIG", 1024, deepest)?;
+    let longest = "session 0 ok events 2048 weight 17\nphrase ";
+    expect_chain(&rt, alloc, "CPY", 2048, longest)
 }
 
-/// Runs the program on the input, and checks that it is good and what it wrote first.
-pub fn expect_front(
-    rt: &impl std::process::Abort,
+/// Rows of a bench that answer these bytes, for the nonce of `job_of`.
+fn rows_of(
+    rt: &impl Abort,
     alloc: Global,
-    words: &str,
-    input: &[u8],
-    front: &str,
-) -> Result<(), Fail> {
-    let mut list = Vec::new(alloc);
-    for word in words.split(' ') {
-        list.push(String::from_str(alloc, word)?)?;
+    answers: &[(u32, &[u8])],
+) -> Result<Vec<TableRow>, Fail> {
+    let mut rows = Vec::new(alloc);
+    for (event, bytes) in answers {
+        let found = Answer::of(bytes).expect(rt, "a short answer");
+        rows.push(row(*event, TableResult::Answer(found)))?;
     }
-    let source_bytes = Vec::from_slice(alloc, input)?;
-    let mut source = MemSource::of(source_bytes, Behaviour::of(65536, Vec::new(alloc)));
-    let mut sink = MemSink::of(alloc, Behaviour::of(65536, Vec::new(alloc)));
-    let status = plain_top(alloc, list.as_slice(), &mut source, &mut sink, &DigestBench);
-    assert_eq!(rt; status, Status::Good, "at the words {words}");
-    assert!(rt;
-        sink.taken().starts_with(front.as_bytes()),
-        "at the words {words}"
-    );
+    Ok(rows)
+}
+
+fn row(event: u32, found: TableResult) -> TableRow {
+    TableRow {
+        nonce: [0, 1, 2, 3, 4, 5, 6, 7, 8, 9, 10, 11, 12, 13, 14, 15],
+        event,
+        outcome: found,
+    }
+}
+
+/// Runs each of these words on a job of the phrase, with this bench.
+fn expect_measured(
+    rt: &impl Abort,
+    alloc: Global,
+    bench: &TableBench,
+    table: &[(&str, &str, Status, &str)],
+) -> Result<(), Fail> {
+    for (phrase, words, status, report) in table {
+        let job = job_of(alloc, phrase)?;
+        let want = (*status, *report);
+        expect_with(rt, alloc, words, job.as_str(), &WHOLE, bench, want)?;
+    }
     Ok(())
 }
 
 #[test]
-fn answers_faults_and_want_of_memory_come_from_the_bench(rt: HostRuntime) -> Result<(), Fail> {
+fn answers_come_from_the_bench(rt: HostRuntime) -> Result<(), Fail> {
     let alloc = rt.alloc();
-    let mut rows = Vec::new(alloc);
-    rows.push(row(0, answer(&rt, &[0xaa, 0xbb])))?;
-    rows.push(row(1, answer(&rt, &[0x11])))?;
-    rows.push(row(2, answer(&rt, &[0x22])))?;
-    let answering = TableBench::of(rows);
-    for (phrase, words, report) in [
+    let answers = [(0, &[0xaa, 0xbb][..]), (1, &[0x11][..]), (2, &[0x22][..])];
+    let answering = TableBench::of(rows_of(&rt, alloc, &answers)?);
+    let table = [
         (
             "USM scan",
             "walk 0",
+            Status::Good,
             "session 0 done\ntrace 0\nanswer 0 aabb\nbundle 43504c42010000001a02000000000002aabb01000102030405060708090a0b0c0d0e0f\n",
         ),
         (
             "USM scan",
             "eval",
+            Status::Good,
             "session 0 done\nanswer 0 aabb\nbundle 43504c42010000001a02000000000002aabb01000102030405060708090a0b0c0d0e0f\n",
         ),
         (
             "USM a -> USM b",
             "walk 0",
+            Status::Good,
             "session 0 done\ntrace 0 1\nanswer 0 aabb\nanswer 1 11\nbundle 43504c420100000022020000000100011102000000000002aabb01000102030405060708090a0b0c0d0e0f\n",
         ),
         (
             "USM a +~- USM b",
             "walk 0",
+            Status::Good,
             "session 0 done\ntrace 0 1 2 3\nanswer 1 11\nanswer 2 22\nbundle 43504c42010000002307020000000100011101000102030405060708090a0b0c0d0e0f020000000200012200\n",
         ),
         (
             "USM a -<+ USM b",
             "walk 0",
+            Status::Good,
             "session 0 done\ntrace 0 1 2 3\nanswer 1 11\nanswer 2 22\nbundle 43504c42010000002306020000000100011100020000000200012201000102030405060708090a0b0c0d0e0f\n",
         ),
         (
             "@q [USM scan -> SIG]",
             "walk 0",
+            Status::Good,
             "session 0 done\ntrace 0 1 2 3\nanswer 1 11\nbundle 43504c42010000003e04000000025f392531f1398617f975a0d0df3de9b76edd1eb0fca777a0def32b462d76fc44020000000100011101000102030405060708090a0b0c0d0e0f\n",
         ),
         (
             "((USM scan))->SIG",
             "eval",
+            Status::Good,
             "session 0 done\nanswer 0 aabb\nbundle 43504c42010000003f0400000001bf3d4bf059e139949ebbf67a3cddf4cb9491800b555a0367c1f2ffe4ba66293102000000000002aabb01000102030405060708090a0b0c0d0e0f\n",
         ),
-    ] {
-        let job = job_of(alloc, phrase)?;
-        let want = (Status::Good, report);
-        expect_with(&rt, alloc, words, job.as_bytes(), &WHOLE, &answering, want)?;
-    }
-    let mut rows = Vec::new(alloc);
-    rows.push(row(0, answer(&rt, &[])))?;
+    ];
+    expect_measured(&rt, alloc, &answering, &table)
+}
+
+#[test]
+fn faults_come_from_the_bench(rt: HostRuntime) -> Result<(), Fail> {
+    let alloc = rt.alloc();
+    let mut rows = rows_of(&rt, alloc, &[(0, &[][..]), (2, &[0x22][..])])?;
     rows.push(row(1, TableResult::Fault(BenchFault::Broken(7))))?;
-    rows.push(row(2, answer(&rt, &[0x22])))?;
-    let failing = TableBench::of(rows);
-    let three = job_of(alloc, "USM a -> USM b -> USM a")?;
-    let want = (Status::SomeFailed, "session 0 failed 1 broken 7\ntrace 0\n");
-    expect_with(
-        &rt,
-        alloc,
-        "walk 0",
-        three.as_bytes(),
-        &WHOLE,
-        &failing,
-        want,
-    )?;
-    let parallel = job_of(alloc, "USM a +~- USM b")?;
-    let want = (Status::SomeFailed, "session 0 failed 1 broken 7\ntrace 0\n");
-    expect_with(
-        &rt,
-        alloc,
-        "walk 0",
-        parallel.as_bytes(),
-        &WHOLE,
-        &failing,
-        want,
-    )?;
+    let broken = "session 0 failed 1 broken 7\ntrace 0\n";
+    let table = [
+        (
+            "USM a -> USM b -> USM a",
+            "walk 0",
+            Status::SomeFailed,
+            broken,
+        ),
+        ("USM a +~- USM b", "walk 0", Status::SomeFailed, broken),
+    ];
+    expect_measured(&rt, alloc, &TableBench::of(rows), &table)?;
     // The right arm fails, after the left one has answered.
-    let mut rows = Vec::new(alloc);
-    rows.push(row(1, answer(&rt, &[0x11])))?;
-    let lacking = TableBench::of(rows);
-    let want = (
+    let lacking = TableBench::of(rows_of(&rt, alloc, &[(1, &[0x11][..])])?);
+    let table = [(
+        "USM a +~- USM b",
+        "walk 0",
         Status::SomeFailed,
         "session 0 failed 2 no-artefact\ntrace 0 1\n",
-    );
-    expect_with(
-        &rt,
-        alloc,
-        "walk 0",
-        parallel.as_bytes(),
-        &WHOLE,
-        &lacking,
-        want,
-    )?;
+    )];
+    expect_measured(&rt, alloc, &lacking, &table)
+}
+
+#[test]
+fn want_of_memory_comes_from_the_bench(rt: HostRuntime) -> Result<(), Fail> {
+    let alloc = rt.alloc();
     let mut rows = Vec::new(alloc);
     rows.push(row(0, TableResult::Starve))?;
-    let starving = TableBench::of(rows);
-    let scan = job_of(alloc, "USM scan")?;
-    let want = (Status::NoMemory, "error: no memory\n");
-    expect_with(
-        &rt,
-        alloc,
-        "walk 0",
-        scan.as_bytes(),
-        &WHOLE,
-        &starving,
-        want,
-    )
+    let table = [("USM scan", "walk 0", Status::NoMemory, "error: no memory\n")];
+    expect_measured(&rt, alloc, &TableBench::of(rows), &table)
+}
+
+const COPIED: &str =
+    "session 0 done\ntrace 0\nbundle 43504c42010000001101000102030405060708090a0b0c0d0e0f\n";
+
+/// Runs `walk 0` on a job with this many spaces behind it.
+fn expect_padded(
+    rt: &impl Abort,
+    alloc: Global,
+    length: usize,
+    want: (Status, &str),
+) -> Result<(), Fail> {
+    let mut input = job_of(alloc, "CPY")?;
+    let spaces = " ".repeat(alloc, length.saturating_sub(input.len()))?;
+    input.push_str(spaces.as_str())?;
+    expect_run(rt, alloc, "walk 0", input.as_str(), &WHOLE, want)
 }
 
 #[test]
 fn inputs_end_at_the_limit(rt: HostRuntime) -> Result<(), Fail> {
     let alloc = rt.alloc();
-    let mut input = Vec::from_slice(alloc, job_of(alloc, "CPY")?.as_bytes())?;
-    input.resize(4194304, b' ')?;
-    expect_run(
-        &rt,
-        alloc,
-        "walk 0",
-        input.as_slice(),
-        &WHOLE,
-        (Status::Good, COPIED),
-    )?;
-    input.push(b' ')?;
+    expect_padded(&rt, alloc, 4194304, (Status::Good, COPIED))?;
     let long = (Status::TooLong, "error: input too long\n");
-    expect_run(&rt, alloc, "walk 0", input.as_slice(), &WHOLE, long)
+    expect_padded(&rt, alloc, 4194305, long)
+}
+
+/// Runs each of these words on the job of the phrase `CPY`, over these ports.
+fn expect_over(
+    rt: &impl Abort,
+    alloc: Global,
+    ports: &Ports<'_>,
+    table: &[(&str, Status, &str)],
+) -> Result<(), Fail> {
+    let job = job_of(alloc, "CPY")?;
+    for (words, status, written) in table {
+        expect_run(rt, alloc, words, job.as_str(), ports, (*status, *written))?;
+    }
+    Ok(())
 }
 
 #[test]
 fn faults_of_the_ports_are_answered(rt: HostRuntime) -> Result<(), Fail> {
     let alloc = rt.alloc();
-    let job = job_of(alloc, "CPY")?;
     let source_fails = Ports {
         source_most: 7,
         source_failing: &[0],
         sink_most: 1,
-        sink_failing: &NO_CALLS,
+        sink_failing: &[],
     };
-    let read_fault = (Status::ReadFault, "error: read fault\n");
-    expect_run(
-        &rt,
-        alloc,
-        "walk 0",
-        job.as_bytes(),
-        &source_fails,
-        read_fault,
-    )?;
-    let words = (Status::BadWords, "error: words\n");
-    expect_run(&rt, alloc, "walk 01", job.as_bytes(), &source_fails, words)?;
+    let table = [
+        ("walk 0", Status::ReadFault, "error: read fault\n"),
+        ("walk 01", Status::BadWords, "error: words\n"),
+    ];
+    expect_over(&rt, alloc, &source_fails, &table)?;
     let sink_fails = Ports {
         source_most: 7,
-        source_failing: &NO_CALLS,
+        source_failing: &[],
         sink_most: 10,
         sink_failing: &[1],
     };
-    let write_fault = (Status::WriteFault, "session 0 ");
-    expect_run(
-        &rt,
-        alloc,
-        "walk 0",
-        job.as_bytes(),
-        &sink_fails,
-        write_fault,
-    )?;
     // A refusal whose line can't be written whole stays the refusal.
-    let cut = (Status::BadWords, "error: wor");
-    expect_run(&rt, alloc, "walk", job.as_bytes(), &sink_fails, cut)
+    let table = [
+        ("walk 0", Status::WriteFault, "session 0 "),
+        ("walk", Status::BadWords, "error: wor"),
+    ];
+    expect_over(&rt, alloc, &sink_fails, &table)
+}
+
+fn expect_codes(rt: &impl Abort, table: &[(Status, u8)]) {
+    for (status, code) in table {
+        assert_eq!(rt; status.code(), *code, "at {status:?}");
+    }
 }
 
 #[test]
 fn each_status_has_its_code(rt: HostRuntime) {
-    for (status, code) in [
+    let table = [
         (Status::Good, 0),
         (Status::SomeFailed, 1),
         (Status::Rejected, 1),
@@ -523,9 +428,8 @@ fn each_status_has_its_code(rt: HostRuntime) {
         (Status::WriteFault, 11),
         (Status::NoMemory, 12),
         (Status::Unbuilt, 13),
-    ] {
-        assert_eq!(rt; status.code(), code, "at {status:?}");
-    }
+    ];
+    expect_codes(&rt, &table);
 }
 
 #[test]

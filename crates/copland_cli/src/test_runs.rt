@@ -1,0 +1,149 @@
+// Runs of the program in tests: over ports in memory, with what it must answer and write.
+
+use crate::status::Status;
+use crate::top::plain_top;
+use bench_trait::{Bench, DigestBench};
+use byte_ports::{Behaviour, MemSink, MemSource};
+use std::alloc::Global;
+use std::process::Abort;
+use std::test::Fail;
+
+const NO_CALLS: [u64; 0] = [];
+
+/// Ports of a run: the greatest size of a call, and the calls that fail.
+#[derive(Drop)]
+pub struct Ports<'a> {
+    pub source_most: usize,
+    pub source_failing: &'a [u64],
+    pub sink_most: usize,
+    pub sink_failing: &'a [u64],
+}
+
+pub const WHOLE: Ports<'static> = Ports {
+    source_most: 65536,
+    source_failing: &NO_CALLS,
+    sink_most: 65536,
+    sink_failing: &NO_CALLS,
+};
+
+pub const JOB_HEAD: &str =
+    "{\"places\":[{\"name\":\"bank\",\"key\":\"000102030405060708090a0b0c0d0e0f\",\"asks\":[\"q\"],\"sees\":[\"q\"],\"offers\":[\"scan\",\"a\",\"b\"]},{\"name\":\"q\",\"key\":\"101112131415161718191a1b1c1d1e1f\",\"offers\":[\"scan\"]}],\"sessions\":[{\"root\":\"bank\",\"nonce\":\"000102030405060708090a0b0c0d0e0f\",\"phrase\":\"";
+
+/// A job of one session with this phrase.
+pub fn job_of(alloc: Global, phrase: &str) -> Result<String, Fail> {
+    let mut job = String::from_str(alloc, JOB_HEAD)?;
+    job.push_str(phrase)?;
+    job.push_str("\"}]}")?;
+    Ok(job)
+}
+
+/// A phrase of parts, each a number of times, joined by arrows.
+pub fn chain_of(alloc: Global, parts: &[(&str, u32)]) -> Result<String, Fail> {
+    let mut phrase = String::new(alloc);
+    let mut arrow = "";
+    for (part, times) in parts {
+        for _ in 0..*times {
+            phrase.push_str(arrow)?;
+            phrase.push_str(part)?;
+            arrow = " -> ";
+        }
+    }
+    Ok(phrase)
+}
+
+/// Words that are cut at spaces.
+fn words_of(alloc: Global, words: &str) -> Result<Vec<String>, Fail> {
+    let mut list = Vec::new(alloc);
+    for word in words.split(' ') {
+        if !word.is_empty() {
+            list.push(String::from_str(alloc, word)?)?;
+        }
+    }
+    Ok(list)
+}
+
+fn source_of(alloc: Global, input: &[u8], ports: &Ports<'_>) -> Result<MemSource, Fail> {
+    let failing = Vec::from_slice(alloc, ports.source_failing)?;
+    let bytes = Vec::from_slice(alloc, input)?;
+    Ok(MemSource::of(bytes, Behaviour::of(ports.source_most.max(1), failing)))
+}
+
+fn sink_of(alloc: Global, ports: &Ports<'_>) -> Result<MemSink, Fail> {
+    let failing = Vec::from_slice(alloc, ports.sink_failing)?;
+    Ok(MemSink::of(alloc, Behaviour::of(ports.sink_most.max(1), failing)))
+}
+
+/// Runs the program, and gives what it answers and the sink.
+fn run<B: Bench>(
+    alloc: Global,
+    words: &str,
+    input: &[u8],
+    ports: &Ports<'_>,
+    bench: &B,
+) -> Result<(Status, MemSink), Fail> {
+    let list = words_of(alloc, words)?;
+    let mut source = source_of(alloc, input, ports)?;
+    let mut sink = sink_of(alloc, ports)?;
+    let status = plain_top(alloc, list.as_slice(), &mut source, &mut sink, bench);
+    Ok((status, sink))
+}
+
+/// Runs the program with this bench, and checks its status and what it wrote.
+pub fn expect_with<B: Bench>(
+    rt: &impl Abort,
+    alloc: Global,
+    words: &str,
+    input: &str,
+    ports: &Ports<'_>,
+    bench: &B,
+    want: (Status, &str),
+) -> Result<(), Fail> {
+    let (status, sink) = run(alloc, words, input.as_bytes(), ports, bench)?;
+    assert_eq!(rt; status, want.0, "at the words {words}");
+    assert_eq!(rt; sink.taken(), want.1.as_bytes(), "at the words {words}");
+    Ok(())
+}
+
+/// The same with the bench of the program.
+pub fn expect_run(
+    rt: &impl Abort,
+    alloc: Global,
+    words: &str,
+    input: &str,
+    ports: &Ports<'_>,
+    want: (Status, &str),
+) -> Result<(), Fail> {
+    expect_with(rt, alloc, words, input, ports, &DigestBench, want)
+}
+
+/// Runs each of these words on a job.
+pub fn expect_each(
+    rt: &impl Abort,
+    alloc: Global,
+    job: &str,
+    table: &[(&str, Status, &str)],
+) -> Result<(), Fail> {
+    for (words, status, report) in table {
+        expect_run(rt, alloc, words, job, &WHOLE, (*status, *report))?;
+    }
+    Ok(())
+}
+
+/// Runs each of these words on a job, and checks that the run is good and what it wrote first.
+pub fn expect_front(
+    rt: &impl Abort,
+    alloc: Global,
+    table: &[&str],
+    job: &str,
+    front: &str,
+) -> Result<(), Fail> {
+    for words in table {
+        let (status, sink) = run(alloc, words, job.as_bytes(), &WHOLE, &DigestBench)?;
+        assert_eq!(rt; status, Status::Good, "at the words {words}");
+        assert!(rt;
+            sink.taken().starts_with(front.as_bytes()),
+            "at the words {words}"
+        );
+    }
+    Ok(())
+}
