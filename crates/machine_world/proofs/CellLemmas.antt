@@ -50,9 +50,6 @@ same-self (of number) = eq-eqb number number refl
 
 -- ---- puts
 
-pub put-read : (name : Name) (state : Cell) (blocks : Name → Cell) → put_block name state blocks name ≡ state
-put-read name state blocks = if_true (same_name name name) state (blocks name) (same-self name)
-
 pub put-same : (name : Name) (state : Cell) (blocks : Name → Cell) → blocks name ≡ state → put_block name state blocks ≡ blocks
 put-same name state blocks e = fun_ext (λ other. at other)
   where

@@ -29,7 +29,7 @@ use Rattle.machine_world.specs.declared.world.World.{World}
 use Rattle.machine_world.specs.Cells.{Book, block_of, cell, runner_of, tables_of, opening_book, makings_of}
 use Rattle.machine_world.specs.World.{JoinFits, AllowsStep, empty_block, waiter_of, waiter_by}
 use Rattle.machine_world.specs.Calls.{RunsAt, runner_at}
-use Rattle.machine_world.specs.Answers.{ready_by, ready_with, next_by_book, ask_for, ask_in, ask_at, ask_of, IsStarted}
+use Rattle.machine_world.specs.Answers.{ready_by, ready_with, next_by_book, ask_for, ask_in, ask_at, ask_of}
 use Rattle.machine_world.proofs.CellLemmas.{name-back}
 use Rattle.machine_world.proofs.TableLemmas.{result-seen}
 use Rattle.machine_world.proofs.MoveLemmas.{cell-runs}
@@ -48,11 +48,6 @@ cell-running program values Running runner remote local e = (refl, running_same 
     running_same : running runner.remote (local_of program values runner.machine) ≡ running remote local → local_of program values runner.machine ≡ local
     running_same q = cc
 cell-running program values (Ended id) runner remote local e = cc
-
-pub started-state : (program : List Block) (values : List Evidence) (state : BlockState) (runner : Runner) → IsStarted (cell program values state runner) → (P : BlockState → Type 0) → P Running → ((id : ℕ) → P (Ended id)) → P state
-started-state program values NotStarted runner h P p f = elim h [ ]
-started-state program values Running runner h P p f = p
-started-state program values (Ended id) runner h P p f = f id
 
 -- ---- a step that a block may take
 
@@ -178,17 +173,6 @@ next-ready world book (JoinPar j i) =
     ap (λ (found : Option Evidence). next_with found j) (result-seen world.program world.store.values (state_of world.table (Of i)) (runner_of world.program world.runners.items (Of i)))
     ∙ next_found book j world.store.values (result_of (state_of world.table (Of i)))
 next-ready world book End = refl
-
--- a block that doesn't run can do nothing
-pub next-idle : (world : World) (book : Book) (name : BlockName) → (state_of world.table name ≡ Running → ⊥) → next_in_tables (tables_of world book) (block_of name) ≡ None
-next-idle world book name idle =
-    ap (λ (n : BlockName). next_at (tables_of world book) (cell world.program world.store.values (state_of world.table n) (runner_of world.program world.runners.items n))) (name-back name)
-    ∙ idle_at (state_of world.table name) (runner_of world.program world.runners.items name) idle
-  where
-    idle_at : (state : BlockState) (runner : Runner) → (state ≡ Running → ⊥) → next_at (tables_of world book) (cell world.program world.store.values state runner) ≡ None
-    idle_at NotStarted runner h = refl
-    idle_at Running runner h = absurd (h refl)
-    idle_at (Ended id) runner h = refl
 
 -- ---- an answer that a block may get
 

@@ -1,9 +1,9 @@
 -- The moves of a block: a step of its machine, and what the step asks of the world.
-use Rattle.std.proofs.Common.{◌≡◌, ℕ, ◌<◌, Bool, true, false, List, [], ◌∷◌, ◌++◌, Option, None, Some, length, slice_index_or, refl, sym, ap, ap₂, ◌∙◌, subst, Ok}
+use Rattle.std.proofs.Common.{◌≡◌, ℕ, ◌<◌, Bool, true, false, List, [], ◌∷◌, ◌++◌, Option, Some, length, slice_index_or, refl, sym, ap, ap₂, ◌∙◌, subst, Ok}
 use Rattle.std.specs.Vec.{with_item}
 use Rattle.evidence_types.specs.Evidence.{Evidence}
 use Rattle.session_runs.specs.Standing.{Block as Name, State, is_open, played, run as run_move}
-use Rattle.session_runs.specs.Moves.{run, asks}
+use Rattle.session_runs.specs.Moves.{run}
 use Rattle.evidence_store.specs.Kept.{Kept, Grows, value_at}
 use Rattle.avm_code.specs.declared.instr.BlockName.{BlockName}
 use Rattle.avm_code.specs.declared.instr.BlockName.TheVariants.{Root, Of}
@@ -12,13 +12,13 @@ use Rattle.avm_code.specs.declared.instr.Instr.TheVariants.{End}
 use Rattle.avm_code.specs.declared.program.Block.{Block}
 use Rattle.avm_code.specs.Order.{code_called, place_called}
 use Rattle.machine_tables.specs.Row.{Local, Deed, event, silent, sent, forked, needs_answer, needs_reply, needs_child, ended, row}
-use Rattle.machine_tables.specs.Tables.{Tables, BlockState as Cell, running, put_block, acts_unless, act_on, act_with, act, after_change, after_step, after_end, step_in, step_of, tables_while, step_tables, is_asked, nothing, posts, forks, lifts, block_name}
+use Rattle.machine_tables.specs.Tables.{Tables, BlockState as Cell, running, put_block, act_on, act_with, act, after_change, after_step, after_end, step_in, step_of, tables_while, step_tables, nothing, posts, forks, block_name}
 use Rattle.avm_core.specs.declared.machine.Machine.{Machine}
 use Rattle.avm_core.specs.Machine.{local_of, local_in, setting_of}
 use Rattle.avm_core.specs.Steps.{Steps, deed_of, StaysWhere}
 use Rattle.avm_core.proofs.Frames.{code_behind}
 use Rattle.avm_core.specs.declared.stepped.Stepped.{Stepped}
-use Rattle.avm_core.specs.declared.stepped.Stepped.TheVariants.{Event, Silent, Sent, Forked, NeedsAnswer, Ended as Finished}
+use Rattle.avm_core.specs.declared.stepped.Stepped.TheVariants.{Event, Silent, Sent, Forked, Ended as Finished}
 use Rattle.branch_join.specs.declared.state.BlockState.{BlockState}
 use Rattle.branch_join.specs.declared.state.BlockState.TheVariants.{Running}
 use Rattle.branch_join.specs.Blocks.{state_of}
@@ -63,15 +63,6 @@ module _ (world : World) (name : BlockName) (index : ℕ) (at : RunsAt world nam
       ≡ Some (after_end (block_of name) (runner_at world index).remote (value_at world.store.values id) (tables_of world book))
   moves-ended id =
       ap (λ (blocks : Name → Cell). let t : Tables = record (tables_of world book) { blocks = blocks } in Some (after_end (block_of name) (runner_at world index).remote (value_at world.store.values id) t)) kept
-
-  asks_nothing : (b : Bool) (i : ℕ) (local : Local) → acts_unless b run (asks i) (lifts i) local ≡ None
-  asks_nothing true i local = refl
-  asks_nothing false i local = refl
-
-  pub moves-waits : (i : ℕ) → settled_tables world name (runner_at world index) (NeedsAnswer i) pass book ≡ None
-  moves-waits i =
-      ap (after_step world.program pass (block_of name) (runner_at world index).remote (tables_of world book))
-      (asks_nothing (is_asked (book.in_flight i)) i (local_of world.program world.store.values (runner_at world index).machine))
 
 -- the end of a block, and the book
 pub end-booked : (name : BlockName) (remote : Bool) (values : List Evidence) (id : ℕ) (world : World) (book : Book)

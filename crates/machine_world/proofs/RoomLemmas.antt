@@ -17,8 +17,7 @@ use Rattle.avm_core.specs.declared.stepped.Stepped.TheVariants.{Event, Silent, S
 use Rattle.avm_core.specs.Machine.{AwaitsAnswer, AwaitsChild}
 use Rattle.avm_core.specs.Steps.{deed_of, most_added}
 use Rattle.evidence_types.specs.Evidence.{Evidence}
-use Rattle.place_mail.specs.declared.request.Request.{Request}
-use Rattle.place_mail.specs.Mail.{Mail, after_post, after_take, after_answer, after_reply}
+use Rattle.place_mail.specs.Mail.{Mail, after_reply}
 use Rattle.branch_join.specs.declared.state.BlockState.{BlockState}
 use Rattle.branch_join.specs.declared.state.BlockState.TheVariants.{NotStarted, Running, Ended}
 use Rattle.branch_join.specs.Blocks.{Blocks, state_of, state_or, IsInTable, with_state, put_named, none_started, not_started, is_same}
@@ -214,29 +213,10 @@ over_ended table (Of number) id e =
 -- ---- a world has room
 
 module _ (world : World) where
-  -- a request comes, and goes
-  pub room-posted : (mail : Mail) (index : ℕ) (request : Request) → mail ≡ after_post index request world.mail → HasRoomFor 1 0 world → HasRoom (record world { mail = mail })
-  room-posted mail index request e r =
-      subst (λ (m : Mail). HasRoom (record world { mail = m })) (sym e)
-      (let p : left_in world + 1 ≤ world.mail.posts = r.posts in record { spare = r.spare; posts = omega arith; replies = r.replies })
-
-  pub room-taken : (mail : Mail) (index : ℕ) → mail ≡ after_take index world.mail → HasRoom world → HasRoom (record world { mail = mail })
-  room-taken mail index e r =
-      subst (λ (m : Mail). HasRoom (record world { mail = m })) (sym e) (record { spare = r.spare; posts = r.posts; replies = r.replies })
-
-  -- a reply comes, and goes
-  pub room-answered : (mail : Mail) (number id : ℕ) → mail ≡ after_answer number id world.mail → HasRoomFor 0 1 world → HasRoom (record world { mail = mail })
-  room-answered mail number id e r =
-      subst (λ (m : Mail). HasRoom (record world { mail = m })) (sym e)
-      (let p : not_over world.table.others + 1 ≤ world.mail.replies = r.replies in record { spare = r.spare; posts = r.posts; replies = omega arith })
-
+  -- a reply is taken
   pub room-reply_taken : (mail : Mail) (number : ℕ) → mail ≡ after_reply number world.mail → HasRoom world → HasRoom (record world { mail = mail })
   room-reply_taken mail number e r =
       subst (λ (m : Mail). HasRoom (record world { mail = m })) (sym e) (record { spare = r.spare; posts = r.posts; replies = r.replies })
-
-  pub room-less : (replies : ℕ) → HasRoomFor 0 replies world → HasRoom world
-  room-less replies r =
-      let p : not_over world.table.others + replies ≤ world.mail.replies = r.replies in record { spare = r.spare; posts = r.posts; replies = omega arith }
 
   -- a block starts
   pub room-begun : (name : BlockName) (index : ℕ) (now : Runner) (table : Blocks) → IsInTable world.table name → state_of world.table name ≡ NotStarted → IsAt world.program name index → index < length world.runners.items → table ≡ with_state name Running world.table → HasRoom world
