@@ -1,15 +1,23 @@
 #!/usr/bin/env python3
-"""How long `check` takes for a job of the greatest size, with 256 sessions, 4,096 artefacts and 4,096
-references. It is to be under a second.
+"""How much longer `check` takes for a job than for a job of as many bytes that is refused right after its
+JSON was read.
 
     python3 bench/check.py [TIMES]
 
-Each job is run TIMES times (5 if not given), and the least time counts. There are three jobs. In the
-first all names are short. In the second they are of 32 bytes and differ only in their last four, the root
-is the last place, each measurement is the last that it offers, and two references differ only in their
-last argument, so that each look-up and each comparison takes the longest. The third is the second with
-all references for one measurement, whose answers differ only at their ends. References stand in an order
-that is neither theirs nor its reverse."""
+The jobs:
+
+- `phrases`: 63 phrases of 1,024 events each in some 65,000 bytes, four megabytes in all: measurements with
+  long names, and `NUL`. `blanks` has copies in their place, with blanks between them.
+- `chains`: 256 sessions of a chain of 1,000 events each.
+- `brackets`: 256 sessions with 64 brackets each, one in another. `marks` opens and closes as many again and
+  again, over four megabytes.
+- `books`: 4,096 references and 4,096 artefacts, all names of 32 bytes that differ only in their last four.
+  References stand in an order that is neither theirs nor its reverse.
+
+Each is compared with the same job with a number for `bundle`, which stands last, so that it is refused
+there with nothing after it looked at. Blanks at the end make both of the same length. Each is run TIMES
+times (5 if not given), and the least processor time counts. The greatest memory of `chains` is looked at,
+too."""
 
 import json
 import os
@@ -18,87 +26,114 @@ import tempfile
 
 import common
 
-SESSIONS = 256
-ARTEFACTS = 4096
-REFERENCES = 4096
-PLACES = 64
-OFFERS = 256
-
 # References are numbered in steps of so many, round and round; it has no factor with their number.
 STRIDE = 1597
 
-# The events of each phrase, and how many of them are measurements.
-EVENTS = 1000
-MEASUREMENTS = 60
-
-LIMIT = 1.0
-
-
-def short_name(index):
-    return "n%d" % index
+# The most memory that the program may take for `chains`, in megabytes of 2^20 bytes.
+MEMORY = 100
 
 
 def long_name(index):
     return "n" * 28 + "%04d" % index
 
 
-def apart(index):
-    """The last argument and the answer of a reference for a measurement of its own."""
-    return index, "00"
+def place(name, offers):
+    return {"name": name, "key": "00" * 16, "offers": offers}
 
 
-def together(index):
-    """The same of one for the measurement that all are for."""
-    return 0, "%064x" % index
+def sessions(count, phrase):
+    return [{"root": "bank", "nonce": "%032x" % index, "phrase": phrase} for index in range(count)]
 
 
-def job_of(name, expected):
-    """A job whose names are made by `name`, of exactly the greatest size. A reference's last argument and
-    answer are what is `expected`."""
-    last = name(PLACES - 1)
-    asp = name(OFFERS - 1)
-    places = [{"name": name(index), "key": "%032x" % index} for index in range(PLACES)]
-    places[-1]["offers"] = [name(index) for index in range(OFFERS)]
-    artefacts = [{"place": last, "name": name(index), "bytes": "00"} for index in range(ARTEFACTS)]
-    phrase = " -> ".join(["USM " + asp] * MEASUREMENTS + ["CPY"] * (EVENTS - MEASUREMENTS))
-    sessions = [{"root": last, "nonce": "%032x" % index, "phrase": phrase} for index in range(SESSIONS)]
+def phrases():
+    """`NUL` keeps the evidence light. With it and two arrows, a measurement takes 126 bytes."""
+    names = "a" * 32, "b" * 32, "c" * 32, "d" * 12
+    phrase = " -> ".join(["USM " + " ".join(names), "NUL"] * 512)
+    return {"places": [place("bank", [names[0]])], "sessions": sessions(63, phrase)}
+
+
+def blanks():
+    phrase = " -> ".join(["CPY" + " " * 56] * 1024)
+    return {"places": [place("bank", [])], "sessions": sessions(63, phrase)}
+
+
+def chains():
+    phrase = " -> ".join(["CPY"] * 1000)
+    return {"places": [place("bank", [])], "sessions": sessions(256, phrase)}
+
+
+def brackets():
+    """Each bracket opens behind `NUL` and a measurement with the longest names."""
+    names = [letter * 32 for letter in "abcde"]
+    level = "NUL -> USM " + " ".join(names) + " -> ("
+    phrase = level * 64 + "CPY" + ")" * 64
+    return {"places": [place("bank", [names[0]])], "sessions": sessions(256, phrase)}
+
+
+def marks():
+    """Nearly every byte is a token."""
+    phrase = " -> ".join(["(" * 64 + "CPY" + ")" * 64] * 118)
+    return {"places": [place("bank", [])], "sessions": sessions(256, phrase)}
+
+
+def books():
+    bank = long_name(0)
+    artefacts = [{"place": bank, "name": long_name(index), "bytes": "00"} for index in range(4096)]
     references = []
-    for index in range(REFERENCES):
-        number, answer = expected(index * STRIDE % REFERENCES)
-        args = [name(1), name(2), name(3), number]
-        references.append({"place": last, "target": name(0), "asp": asp, "args": args, "answer": answer})
-    job = {"places": places, "artefacts": artefacts, "sessions": sessions, "references": references}
-    lacking = common.MOST_BYTES - len(text_of(job))
-    if lacking < 0:
-        sys.exit("the job is %d bytes too long" % -lacking)
-    artefacts[-1]["bytes"] += "00" * (lacking // 2)
-    return text_of(job) + " " * (lacking % 2)
+    for index in range(4096):
+        last = long_name(index * STRIDE % 4096)
+        args = [long_name(1), long_name(2), long_name(3), last]
+        references.append({"place": bank, "target": bank, "asp": long_name(4), "args": args, "answer": "00"})
+    session = {"root": bank, "nonce": "00" * 16, "phrase": "CPY"}
+    job = {"places": [place(bank, [])], "artefacts": artefacts, "sessions": [session]}
+    return {**job, "references": references}
 
 
-def text_of(job):
-    return json.dumps(job, separators=(",", ":"))
+# A job, how many times longer than the reading of its JSON it may take, if that is bounded, and how many
+# sessions it has.
+JOBS = [
+    ("phrases", phrases, 3, 63),
+    ("blanks", blanks, 3, 63),
+    ("chains", chains, 5, 256),
+    ("brackets", brackets, 5, 256),
+    ("marks", marks, None, 256),
+    ("books", books, 3, 1),
+]
+
+
+def written(folder, name, job, size=0):
+    """A file with the job, and blanks at its end up to so many bytes."""
+    path = os.path.join(folder, name)
+    with open(path, "w") as sink:
+        sink.write(json.dumps(job, separators=(",", ":")).ljust(size))
+    return path
+
+
+def bound(most):
+    return "" if most is None else " (at most %d)" % most
 
 
 def main():
     times = common.times()
     slow = False
     with tempfile.TemporaryDirectory() as folder:
-        jobs = [
-            ("short names", short_name, apart),
-            ("long names", long_name, apart),
-            ("one measurement", long_name, together),
-        ]
-        for title, name, expected in jobs:
-            job = os.path.join(folder, "job")
-            with open(job, "w") as sink:
-                sink.write(job_of(name, expected))
-            took, worked, report = common.run(["check"], job, times)
-            if report.count(b" ok events %d " % EVENTS) != SESSIONS:
+        for title, made, most, count in JOBS:
+            job = made()
+            refused = written(folder, "refused", {**job, "bundle": 0})
+            size = os.path.getsize(refused)
+            accepted = written(folder, "accepted", job, size)
+            if size > common.MOST_BYTES:
+                sys.exit("%s: the job is %d bytes too long" % (title, size - common.MOST_BYTES))
+            whole = common.run(["check"], accepted, times)
+            if whole.report.count(b" ok events ") != count:
                 sys.exit("%s: not every session was checked" % title)
-            size = os.path.getsize(job)
-            print("check, %s: %d bytes in %.3f s, processor %.3f s" % (title, size, took, worked))
-            slow = slow or took >= LIMIT
-    print("at least one job took %g s or more" % LIMIT if slow else "each job took less than %g s" % LIMIT)
+            reading = common.run(["check"], refused, times, common.BAD_JOB)
+            ratio = whole.worked / reading.worked
+            print("%-8s %7d bytes: %.3f s, the reading of its JSON %.3f s, %.1f to 1%s, %.0f MB" % (
+                title, size, whole.worked, reading.worked, ratio, bound(most), whole.memory))
+            slow = slow or (most is not None and ratio > most)
+            slow = slow or (title == "chains" and whole.memory > MEMORY)
+    print("at least one job takes more than it may" if slow else "no job takes more than it may")
     sys.exit(1 if slow else 0)
 
 

@@ -1,7 +1,7 @@
 """What the benchmarks share: where the program is, and how it is run and timed."""
 
+import collections
 import os
-import resource
 import subprocess
 import sys
 import time
@@ -12,33 +12,35 @@ PROGRAM = os.path.join(TOP, "crates", "cerealspit", "out", "cerealspit")
 # The most bytes that the program reads.
 MOST_BYTES = 4_194_304
 
+# The status of a job with a fault of form.
+BAD_JOB = 6
 
-def run(words, job, times):
-    """The least time and the least processor time, in seconds, of so many runs of the program on a job,
-    and the report.
+# The least time and the least processor time in seconds, the most memory in megabytes, and the report.
+Runs = collections.namedtuple("Runs", "took worked memory report")
+
+
+def run(words, job, times, wanted=0):
+    """So many runs of the program on a job, each of which is to end with the status that is wanted.
 
     The report goes to a file, so that the program never waits for a reader. The least is taken, since
     what else runs on the machine can only add to it."""
     if not os.access(PROGRAM, os.X_OK):
         sys.exit("the program isn't built: run  ./cerealspit check < /dev/null  at the top first")
-    took, worked = [], []
+    took, worked, memory = [], [], []
     for _ in range(times):
         with open(job, "rb") as source, open(job + ".out", "wb") as sink:
-            begun, before = time.perf_counter(), children()
-            status = subprocess.run([PROGRAM, *words], stdin=source, stdout=sink).returncode
+            begun = time.perf_counter()
+            program = subprocess.Popen([PROGRAM, *words], stdin=source, stdout=sink)
+            _, status, used = os.wait4(program.pid, 0)
+            program.returncode = os.waitstatus_to_exitcode(status)
             took.append(time.perf_counter() - begun)
-            worked.append(children() - before)
+        worked.append(used.ru_utime + used.ru_stime)
+        memory.append(used.ru_maxrss / 1024)
         with open(job + ".out", "rb") as sink:
             report = sink.read()
-        if status != 0:
-            sys.exit("%s: status %d, %r" % (" ".join(words), status, report[:100]))
-    return min(took), min(worked), report
-
-
-def children():
-    """The processor time that ended programs took, the system's for them included."""
-    used = resource.getrusage(resource.RUSAGE_CHILDREN)
-    return used.ru_utime + used.ru_stime
+        if program.returncode != wanted:
+            sys.exit("%s: status %d, %r" % (" ".join(words), program.returncode, report[:100]))
+    return Runs(min(took), min(worked), max(memory), report)
 
 
 def times():

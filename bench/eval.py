@@ -96,8 +96,8 @@ def written(folder, text):
 def block_seconds(folder, times):
     """What a block of 64 bytes costs by the program's own SHA-256."""
     artefact = bytes(LARGE)
-    _, many, _ = common.run(["eval"], written(folder, job_of(artefact, ["USM a"] * PHRASES)), times)
-    _, one, _ = common.run(["eval"], written(folder, job_of(artefact, ["USM a"])), times)
+    many = common.run(["eval"], written(folder, job_of(artefact, ["USM a"] * PHRASES)), times).worked
+    one = common.run(["eval"], written(folder, job_of(artefact, ["USM a"])), times).worked
     return (many - one) / ((PHRASES - 1) * LARGE / BLOCK)
 
 
@@ -112,9 +112,10 @@ def main():
     phrase = " -> ".join([PART] * SEALS)
     with tempfile.TemporaryDirectory() as folder:
         job = written(folder, job_of(ARTEFACT, [phrase] * PHRASES))
-        _, reading, _ = common.run(["check"], job, times)
-        _, whole, report = common.run(["eval"], job, times)
-        found = [line[7:] for line in report.split(b"\n") if line.startswith(b"bundle ")]
+        reading = common.run(["check"], job, times).worked
+        evaluated_all = common.run(["eval"], job, times)
+        whole = evaluated_all.worked
+        found = [line[7:] for line in evaluated_all.report.split(b"\n") if line.startswith(b"bundle ")]
         if found != [row[0].hex().encode() for row in wanted]:
             sys.exit("the bundles aren't those computed here")
         block = block_seconds(folder, times)
