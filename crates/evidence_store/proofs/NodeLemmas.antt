@@ -3,8 +3,10 @@ use Rattle.std.proofs.Common.{◌≡◌, ℕ, ◌+◌, ◌<◌, ◌≤◌, List,
 use Rattle.std.proofs.lemmas.List.{get_or_append_left, get_or_push}
 use Rattle.evidence_types.specs.Evidence.{Evidence, empty, usm, kim, seal, seq_pair, par_pair}
 use Rattle.evidence_types.specs.Bytes.{FitsBundle}
+use Rattle.evidence_types.specs.Heads.{IsHead}
+use Rattle.evidence_types.specs.WellFormed.{IsWellFormed}
 use Rattle.evidence_store.specs.Kept.{Kept, value_at, Grows, Adds}
-use Rattle.evidence_store.specs.Nodes.{node_value, values_after, values_of, NamesBelow, IsSound}
+use Rattle.evidence_store.specs.Nodes.{node_value, node_head, values_after, values_of, NamesBelow, IsSound}
 use Rattle.evidence_store.specs.declared.node.Node.{Node}
 use Rattle.evidence_store.specs.declared.node.Node.TheVariants.{Empty, Nonce, Usm, Kim, Seal, Hash, SeqPair, ParPair}
 
@@ -51,10 +53,22 @@ IsSound-nil = record {
   backward = λ place other h. absurd (omega arith);
   stands = λ place other h. absurd (omega arith);
   fits = λ place h. absurd (omega arith);
+  well_formed = λ place h. absurd (omega arith);
 }
 
-pub IsSound-push : (nodes : List Node) (node : Node) → IsSound nodes → NamesBelow (length (values_of nodes)) node → FitsBundle (node_value (values_of nodes) node) → IsSound (nodes ++ node ∷ [])
-IsSound-push nodes node s names fits =
+-- a node whose parts are well formed is so itself
+node-well_formed : (values : List Evidence) (node : Node) → ((place : ℕ) → place < length values → IsWellFormed (value_at values place)) → NamesBelow (length values) node → IsHead (node_head node) → IsWellFormed (node_value values node)
+node-well_formed values Empty each names h = tt
+node-well_formed values (Nonce bytes) each names h = h
+node-well_formed values (Usm event answer under) each names h = (h.0, h.1, each under names)
+node-well_formed values (Kim event answer under) each names h = (h.0, h.1, each under names)
+node-well_formed values (Seal event bytes under) each names h = (h.0, h.1, each under names)
+node-well_formed values (Hash event bytes) each names h = h
+node-well_formed values (SeqPair left right) each names h = (each left names.0, each right names.1)
+node-well_formed values (ParPair left right) each names h = (each left names.0, each right names.1)
+
+pub IsSound-push : (nodes : List Node) (node : Node) → IsSound nodes → NamesBelow (length (values_of nodes)) node → FitsBundle (node_value (values_of nodes) node) → IsHead (node_head node) → IsSound (nodes ++ node ∷ [])
+IsSound-push nodes node s names fits is_head =
     let values : List Evidence = values_of nodes in
     let value : Evidence = node_value values node in
     let grown : values_of (nodes ++ node ∷ []) ≡ values ++ value ∷ [] = values_of-push nodes node in
@@ -81,6 +95,11 @@ IsSound-push nodes node s names fits =
           (λ p l. subst FitsBundle (sym (value_at-append values (value ∷ []) p (omega (arith, s.counted)))) (s.fits p l))
           (subst FitsBundle (sym (get_or_push values value empty (length nodes) s.counted)) fits)
           place (omega (arith, len)));
+      well_formed = λ place h. subst (λ (vs : List Evidence). IsWellFormed (value_at vs place)) (sym grown)
+          (each_place (λ (p : ℕ). IsWellFormed (value_at (values ++ value ∷ []) p)) (length nodes)
+          (λ p l. subst IsWellFormed (sym (value_at-append values (value ∷ []) p (omega (arith, s.counted)))) (s.well_formed p l))
+          (subst IsWellFormed (sym (get_or_push values value empty (length nodes) s.counted)) (node-well_formed values node (λ p l. s.well_formed p (omega (arith, l, s.counted))) names is_head))
+          place (omega (arith, len)));
     }
 
 -- ---- additions
@@ -89,6 +108,12 @@ pub Grows-same : (old new : List Evidence) → new ≡ old → Grows old new
 Grows-same old new e = record {
   longer = omega (arith, ap length e);
   same = λ id h. ap (λ (vs : List Evidence). value_at vs id) e;
+}
+
+pub Grows-then : (first second third : List Evidence) → Grows first second → Grows second third → Grows first third
+Grows-then first second third g h = record {
+  longer = omega (arith, g.longer, h.longer);
+  same = λ id lt. h.same id (omega (arith, lt, g.longer)) ∙ g.same id lt;
 }
 
 pub Grows-added : (old : List Evidence) (value : Evidence) (new : List Evidence) → new ≡ old ++ value ∷ [] → Grows old new
@@ -111,6 +136,7 @@ Adds-added old nodes new node place spare s seen here pushed room =
         stands = ap (λ (vs : List Evidence). value_at vs place) grown ∙ get_or_push old.values (node_value old.values node) empty place (sym place_is);
       };
       refused = tt;
+      spare_stays = tt;
       grows = Grows-added old.values (node_value old.values node) (values_of new) grown;
       in_spare = λ h. (refl, room h);
     }

@@ -30,11 +30,12 @@ pub record IsAdded (old : List Evidence) (value : Evidence) (new : List Evidence
   pub within : id < length new
   pub stands : value_at new id ≡ value
 
--- an addition: Ok adds the value, an error leaves the values as they are, and either keeps what ids
--- stand for; with spare it is Ok, and lowers spare by one
+-- an addition: Ok adds the value, an error leaves the values and the spare as they are, and either keeps
+-- what ids stand for; with spare it is Ok, and lowers spare by one
 pub record Adds (old : Kept) (value : Evidence) (outcome : Result ℕ NoMemory) (new : Kept) : Type 0 where
   pub added : IfOk outcome (IsAdded old.values value new.values)
   pub refused : OnErr outcome (new.values ≡ old.values)
+  pub spare_stays : OnErr outcome (new.spare ≡ old.spare)
   pub grows : Grows old.values new.values
   pub in_spare : 1 ≤ old.spare → IsOk outcome × (old.spare ≡ new.spare + 1)
 

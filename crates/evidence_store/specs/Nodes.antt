@@ -1,7 +1,9 @@
 -- The nodes of a store, and the values for which they stand.
-use Rattle.std.specs.Prelude.{◌≡◌, ◌<◌, ℕ, List, [], ◌∷◌, ◌++◌, length, slice_index_or}
+use Rattle.std.specs.Prelude.{◌≡◌, ◌<◌, ℕ, List, [], ◌∷◌, ◌++◌, length, slice_index_or, Option, None}
 use Rattle.evidence_types.specs.Evidence.{Evidence, empty, nonce, usm, kim, seal, hash, seq_pair, par_pair}
-use Rattle.evidence_types.specs.Bytes.{FitsBundle, be16, be32}
+use Rattle.evidence_types.specs.Bytes.{FitsBundle}
+use Rattle.evidence_types.specs.Heads.{Head, empty_head, nonce_head, usm_head, kim_head, seal_head, hash_head, seq_head, par_head, head_bytes}
+use Rattle.evidence_types.specs.WellFormed.{IsWellFormed}
 use Rattle.evidence_store.specs.Kept.{value_at}
 use Rattle.evidence_store.specs.declared.node.Node.{Node}
 use Rattle.evidence_store.specs.declared.node.Node.TheVariants.{Empty, Nonce, Usm, Kim, Seal, Hash, SeqPair, ParPair}
@@ -37,23 +39,28 @@ NamesBelow place (Hash event bytes) = Unit {0}
 NamesBelow place (SeqPair left right) = (left < place) × (right < place)
 NamesBelow place (ParPair left right) = (left < place) × (right < place)
 
--- each node names nodes before it and has its own value, which is within the limits
+-- each node names nodes before it and has its own value, which is well formed and within the limits
 pub record IsSound (nodes : List Node) : Type 0 where
   pub counted : length (values_of nodes) ≡ length nodes
   pub backward : (place : ℕ) (other : Node) → place < length nodes → NamesBelow place (slice_index_or nodes place other)
   pub stands : (place : ℕ) (other : Node) → place < length nodes → value_at (values_of nodes) place ≡ node_value (values_of nodes) (slice_index_or nodes place other)
   pub fits : (place : ℕ) → place < length nodes → FitsBundle (value_at (values_of nodes) place)
+  pub well_formed : (place : ℕ) → place < length nodes → IsWellFormed (value_at (values_of nodes) place)
+
+-- the head of a node's value
+abbrev pub node_head : Node → Head
+node_head Empty = empty_head
+node_head (Nonce bytes) = nonce_head bytes
+node_head (Usm event answer under) = usm_head event None answer
+node_head (Kim event answer under) = kim_head event None answer
+node_head (Seal event bytes under) = seal_head event bytes
+node_head (Hash event bytes) = hash_head event bytes
+node_head (SeqPair left right) = seq_head
+node_head (ParPair left right) = par_head
 
 -- the bytes of a node's value that stand before those of its parts
 abbrev pub head : Node → List ℕ
-head Empty = 0 ∷ []
-head (Nonce bytes) = 1 ∷ bytes
-head (Usm event answer under) = 2 ∷ (be32 event ++ (be16 (length answer) ++ answer))
-head (Kim event answer under) = 3 ∷ (be32 event ++ (be16 (length answer) ++ answer))
-head (Seal event bytes under) = 4 ∷ (be32 event ++ bytes)
-head (Hash event bytes) = 5 ∷ (be32 event ++ bytes)
-head (SeqPair left right) = 6 ∷ []
-head (ParPair left right) = 7 ∷ []
+head node = head_bytes (node_head node)
 
 -- the places of a node's parts, the first part last
 abbrev pub parts : Node → List ℕ

@@ -10,6 +10,7 @@
 mod bundle;
 mod digest;
 mod id;
+mod laws;
 mod node;
 mod store;
 #[cfg(test)]
@@ -17,4 +18,5 @@ mod tests;
 mod walk;
 
 pub use id::EvId;
+pub use laws::growth_is_transitive;
 pub use store::Store;

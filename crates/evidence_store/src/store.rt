@@ -1,7 +1,9 @@
-ghost use Rattle.std.specs.Prelude.{◌≡◌, ◌≤◌, ◌<◌, [], length, IfOk, OnOk};
+ghost use Rattle.std.specs.Prelude.{◌≡◌, ◌≤◌, ◌<◌, [], length, IfOk, OnErr, OnOk};
 ghost use Rattle.seal_hmac.specs.Seal.{seal_of, hash_of};
 ghost use Rattle.evidence_types.specs.Evidence as evidence;
+ghost use Rattle.evidence_types.specs.Bundle.{IsBundleOf};
 ghost use Rattle.evidence_types.specs.Bytes.{encoding, bundle, FitsBundle};
+ghost use Rattle.evidence_types.specs.WellFormed.{IsWellFormed};
 ghost use Rattle.evidence_store.specs.Kept.{value_at, Adds, measured, paired};
 ghost use Rattle.evidence_store.specs.Nodes.{node_value, NamesBelow};
 
@@ -64,6 +66,7 @@ impl Store {
     pub fn reserve(&mut self, nodes: u32) -> Result<(), NoMemory>
         ensures spare { OnOk result (nodes ≤ self.new.spare) }
         ensures rises { self.old.spare ≤ self.new.spare }
+        ensures err { OnErr result (self.new.spare ≡ self.old.spare) }
         ensures values { self.new.values ≡ self.old.values }
     {
         match self.nodes.reserve(nodes as usize) {
@@ -77,6 +80,8 @@ impl Store {
         requires fits { FitsBundle (node_value self.old.values node) }
         ensures { Adds self.old (node_value self.old.values node) result self.new }
     {
+        // Its fields are as long as a head's, so its value is well formed.
+        let _ = node.head();
         let place = match push_node(&mut self.nodes, node) {
             Ok(place) => place,
             Err(_) => return Err(NoMemory),
@@ -166,8 +171,20 @@ impl Store {
     pub fn emit(&self, id: EvId) -> Result<Bytes, NoMemory>
         requires { id < length self.now.values }
         ensures bundle { IfOk result (λ bytes. bytes ≡ bundle (value_at self.now.values id)) }
+        // It is one that decoding gives the value of.
+        ensures readable { IfOk result (λ bytes. IsBundleOf bytes (value_at self.now.values id)) }
         ensures fits { FitsBundle (value_at self.now.values id) }
     {
+        self.fits_bundle(id);
         bundle(*self.nodes.allocator(), &self.nodes, id.index())
+    }
+
+    /// Each value is well formed, and can be written as a bundle. It changes nothing.
+    pub fn fits_bundle(&self, id: EvId)
+        requires { id < length self.now.values }
+        ensures fits { FitsBundle (value_at self.now.values id) }
+        ensures well_formed { IsWellFormed (value_at self.now.values id) }
+    {
+        let _ = self.nodes.len();
     }
 }

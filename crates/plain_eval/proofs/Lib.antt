@@ -5,3 +5,4 @@ pub mod BundleLemmas
 pub mod FixedLemmas
 pub mod RightLemmas
 mod WorkedRecords
+pub mod WellFormedLemmas

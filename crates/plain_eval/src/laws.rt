@@ -3,8 +3,10 @@
 ghost use Rattle.std.specs.Prelude.{◌≡◌, ℕ, List, length};
 ghost use Rattle.phrase_tree.specs.Term.{Term};
 ghost use Rattle.phrase_tree.specs.Events.{events_of};
+ghost use Rattle.phrase_tree.specs.Numbering.{IsSized};
 ghost use Rattle.evidence_types.specs.Bytes.{FitsBundle};
 ghost use Rattle.evidence_types.specs.Measure.{IsLight};
+ghost use Rattle.evidence_types.specs.WellFormed.{IsWellFormed};
 ghost use Rattle.session_model.specs.Value.{Makings, session_value};
 ghost use Rattle.place_check.specs.Session.{HaveKeys};
 ghost use Rattle.plain_eval.specs.Keyed.{HasKeys};
@@ -23,4 +25,12 @@ pub fn value_fits_bundle()
     ensures { (phrase : Term) (root : List ℕ) (from : Makings) →
         IsLight phrase → length from.nonce ≡ 16 → HasShortAnswers phrase 0 from.answers →
         FitsBundle (session_value phrase root from) }
+{}
+
+/// The value of a sized phrase is well formed if the nonce has 16 bytes and no answer has more than 1,024; so what
+/// is written of it is read again.
+pub fn value_is_well_formed()
+    ensures { (phrase : Term) (root : List ℕ) (from : Makings) →
+        IsSized phrase → length from.nonce ≡ 16 → HasShortAnswers phrase 0 from.answers →
+        IsWellFormed (session_value phrase root from) }
 {}

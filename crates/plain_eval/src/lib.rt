@@ -24,5 +24,5 @@ pub use fixed::{
     fixed_bench_makes_one_record, nonces_keep_questions_apart,
 };
 pub use gathering::{Gathered, gather, gather_session};
-pub use laws::{events_have_the_keys_of_seals, value_fits_bundle};
+pub use laws::{events_have_the_keys_of_seals, value_fits_bundle, value_is_well_formed};
 pub use right::rising_records_are_right;

@@ -1,6 +1,7 @@
 use Rattle.std.proofs.Common.{arith, ◌≡◌, ◌+◌, ◌-◌, length, List, [], ◌∷◌, ap, sym, subst, ◌∙◌, length-append, vec_len, vec_capacity}
 use Rattle.evidence_types.specs.Evidence.{Evidence}
 use Rattle.evidence_types.specs.Bytes.{FitsBundle}
+use Rattle.evidence_types.specs.Heads.{IsHead}
 use Rattle.evidence_store.specs.Kept.{Kept}
 use Rattle.evidence_store.specs.Nodes.{values_of, node_value, NamesBelow, IsSound}
 use Rattle.evidence_store.proofs.NodeLemmas.{IsSound-push, Adds-added}
@@ -12,7 +13,8 @@ invariant_of-self-2 c =
     let seen : values_of c.self.inside.nodes.items ≡ c.args.self.now.values = ap (λ (k : Kept). k.values) c.self.view_is in
     let names = subst (λ (vs : List Evidence). NamesBelow (length vs) c.args.node) (sym seen) c.requires.names in
     let fits = subst (λ (vs : List Evidence). FitsBundle (node_value vs c.args.node)) (sym seen) c.requires.fits in
-    subst IsSound (sym c.in-Ok.ensures.ok) (IsSound-push nodes c.args.node c.self.invariant names fits)
+    let is_head = subst IsHead c.head.ensures.head c.head.ensures.well_formed in
+    subst IsSound (sym c.in-Ok.ensures.ok) (IsSound-push nodes c.args.node c.self.invariant names fits is_head)
 
 pub returns : goal.returns
 returns c =
