@@ -1,3 +1,5 @@
 pub mod Frames
 pub mod Standing
 pub mod StepLemmas
+pub mod SmallValues
+pub mod Driving

@@ -15,8 +15,9 @@ mod laws;
 mod machine;
 mod stack;
 mod stepped;
+#[cfg(test)]
+mod tests;
 
 pub use laws::programs_run;
 pub use machine::Machine;
-pub use stack::{STACK_HEIGHT, Stack};
 pub use stepped::Stepped;

@@ -25,7 +25,7 @@ pub struct Machine {
     name: BlockName,
     at: u32,
     evidence: EvId,
-    stack: Stack,
+    pub(crate) stack: Stack,
 }
 
 impl Machine {

@@ -4,10 +4,8 @@ use arrayvec::ArrayVec;
 use evidence_store::EvId;
 use std::marker::Model;
 
-/// The greatest height of a machine's stack: only the sequential branches that are open in its block push.
-pub const STACK_HEIGHT: usize = 65;
-
-/// A machine's stack of evidence, kept inline. Clauses see the ids, the top first.
+/// A machine's stack of evidence, kept inline: only the sequential branches that are open in its block
+/// push, at most 65. Clauses see the ids, the top first.
 #[derive(Debug, Drop)]
 pub struct Stack {
     ids: ArrayVec<EvId, 65>,
@@ -28,6 +26,12 @@ impl Stack {
         Stack {
             ids: ArrayVec::new(),
         }
+    }
+
+    pub fn height(&self) -> usize
+        ensures { result ≡ length self.now }
+    {
+        self.ids.len()
     }
 
     /// Puts evidence on top.

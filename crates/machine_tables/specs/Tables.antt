@@ -6,10 +6,12 @@ use Rattle.evidence_types.specs.Evidence.{Evidence}
 use Rattle.session_model.specs.Value.{Makings}
 use Rattle.session_runs.specs.Moves.{Step, run as run_step, ask as ask_step, Effect, silent as no_event, happens, sends, asks, answers as gets_answer, starts}
 use Rattle.session_runs.specs.Standing.{Block, root, of, Move, run, ask, deliver, Entry, opened, played, answered as was_answered, failed, starved, State, is_open, is_done, has_failed, has_starved}
+use Rattle.avm_code.specs.declared.instr.BlockName.{BlockName}
+use Rattle.avm_code.specs.declared.instr.BlockName.TheVariants.{Root, Of}
 use Rattle.avm_code.specs.declared.instr.Instr.{Instr}
 use Rattle.avm_code.specs.declared.instr.Instr.TheVariants.{Copy, Usm, Kim, Sign, Hash, Null, Split, Swap, JoinSeq, Send, Recv, Fork, JoinPar, End}
 use Rattle.avm_code.specs.declared.program.Block.{Block as CodeBlock}
-use Rattle.avm_code.specs.Blocks.{blocks_named, first_place, place_named}
+use Rattle.avm_code.specs.Order.{code_called, place_called}
 use Rattle.machine_tables.specs.Row.{Setting, Local, Deed, event, silent, sent, forked, needs_answer, needs_reply, needs_child, ended, row, answered, replied, joined}
 
 -- how a block stands: it isn't started; its machine runs, and the block runs a request or doesn't; it is
@@ -54,23 +56,14 @@ put_reply number reply replies other = if nat_eq number other then reply else re
 abbrev pub put_ask : ℕ → Option (ℕ × Block) → (ℕ → Option (ℕ × Block)) → ℕ → Option (ℕ × Block)
 put_ask number asked in_flight other = if nat_eq number other then asked else in_flight other
 
--- the code of the first block; none where there is no block
-abbrev pub first_code : List CodeBlock → List Instr
-first_code [] = []
-first_code (first ∷ rest) = first.code
-
--- the code and the place of a block of a program, whose first block is the root
-abbrev pub code_in : List CodeBlock → Block → List Instr
-code_in program root = first_code program
-code_in program (of n) = first_code (blocks_named n program)
-
-abbrev pub place_in : List CodeBlock → Block → List ℕ
-place_in program root = first_place program
-place_in program (of n) = place_named program n
+-- the block of a program that runs it
+abbrev pub block_name : Block → BlockName
+block_name root = Root
+block_name (of n) = Of n
 
 -- the machine of a block that starts on this evidence
 abbrev pub started : List CodeBlock → Block → Evidence → Local
-started program name before = record { rest = code_in program name; evidence = before; stack = [] }
+started program name before = record { rest = code_called program (block_name name); evidence = before; stack = [] }
 
 -- what a step of a block changes beside its own machine and the trace
 pub data Change : Type 0 where
@@ -185,7 +178,7 @@ after_step program pass name remote tables (Some step) =
 abbrev pub step_in : List CodeBlock → Makings → ℕ → Step → Block → Tables → BlockState → Option Tables
 step_in program from pass step name tables not_started = None
 step_in program from pass step name tables (running remote local) =
-    after_step program pass name remote tables (act (record { place = place_in program name; from = from }) tables step local)
+    after_step program pass name remote tables (act (record { place = place_called program (block_name name); from = from }) tables step local)
 step_in program from pass step name tables (over result) = None
 
 abbrev pub step_of : List CodeBlock → Makings → ℕ → Step → Block → Tables → Option Tables

@@ -13,7 +13,8 @@ use Rattle.avm_code.specs.declared.instr.Instr.TheVariants.{End}
 use Rattle.avm_code.specs.declared.program.Block.{Block as CodeBlock}
 use Rattle.avm_compile.specs.Program.{program_of}
 use Rattle.machine_tables.specs.Row.{Local, measured, answered}
-use Rattle.machine_tables.specs.Tables.{BlockState, not_started, running, over, Tables, put_block, put_place, put_ask, first_code, place_in, started, deliver_first, by_asker, answer_at, answer_in, stop_tables, tables_while, enter_tables, step_tables, opening_tables, tables_further, tables_after}
+use Rattle.machine_tables.specs.Tables.{BlockState, not_started, running, over, Tables, put_block, put_place, put_ask, block_name, started, deliver_first, by_asker, answer_at, answer_in, stop_tables, tables_while, enter_tables, step_tables, opening_tables, tables_further, tables_after}
+use Rattle.avm_code.specs.Order.{first_code, place_called}
 use Rattle.session_runs.specs.Configuration.{Configuration, start}
 use Rattle.session_runs.specs.Moves.{run as run_step, ask as ask_step, answer, answers, starts, inner_moves}
 use Rattle.session_runs.specs.Standing.{Block, root, of, run, ask, deliver, Entry, opened, played, answered as was_answered, failed, starved, State, is_open, is_done, has_failed, has_starved, Standing, opening, makings, front, without_request, without_ask, is_in_flight, after, made, delivered, entered, where_open, next}
@@ -224,7 +225,7 @@ module _ (all : List CodeBlock) (from : Makings) (place : List ℕ) (low high : 
   }
 
 -- an entry of a session that is open
-entered_shown : (all : List CodeBlock) (from : Makings) (place : List ℕ) (low high : ℕ) (t : Tables) (s : Standing) → IsShown t s → s.state ≡ is_open → IsMadeOf s.configuration t → Fits all place s.configuration low high → ((n : ℕ) → request_count s.requests n ≤ 1) → place_in all root ≡ place → (entry : Entry) → AreShown (enter_tables all from t entry) (entered from place s entry)
+entered_shown : (all : List CodeBlock) (from : Makings) (place : List ℕ) (low high : ℕ) (t : Tables) (s : Standing) → IsShown t s → s.state ≡ is_open → IsMadeOf s.configuration t → Fits all place s.configuration low high → ((n : ℕ) → request_count s.requests n ≤ 1) → place_called all (block_name root) ≡ place → (entry : Entry) → AreShown (enter_tables all from t entry) (entered from place s entry)
 entered_shown all from place low high t s shown still cells fits once placed opened = tt
 entered_shown all from place low high t s shown still cells fits once placed (played pass (run root)) = root_shown all from place low high t s shown still cells fits pass placed run_step
 entered_shown all from place low high t s shown still cells fits once placed (played pass (run (of m))) = block_shown all from place low high t s shown still cells fits pass m run_step

@@ -10,7 +10,8 @@ use Rattle.avm_code.specs.declared.instr.Instr.TheVariants.{Copy, Usm, Kim, Sign
 use Rattle.avm_code.specs.declared.program.Block.{Block as CodeBlock}
 use Rattle.avm_compile.specs.Program.{program_of}
 use Rattle.machine_tables.specs.Row.{Setting, Local, row, replied as replied_machine, joined, answered}
-use Rattle.machine_tables.specs.Tables.{BlockState, not_started, running, over, Tables, put_block, put_place, place_in, started, Change, nothing, posts, forks, takes, joins, lifts, ends, Acted, result_of, is_asked, acts, acts_unless, acts_with, act_on, act_with, act, trace_after, after_end, after_change, after_machine, after_step, step_in, step_of, deliver_first, by_asker, answer_at, answer_in, stop_tables, enter_tables, tables_while, step_tables, opening_tables, tables_further, tables_after}
+use Rattle.machine_tables.specs.Tables.{BlockState, not_started, running, over, Tables, put_block, put_place, block_name, started, Change, nothing, posts, forks, takes, joins, lifts, ends, Acted, result_of, is_asked, acts, acts_unless, acts_with, act_on, act_with, act, trace_after, after_end, after_change, after_machine, after_step, step_in, step_of, deliver_first, by_asker, answer_at, answer_in, stop_tables, enter_tables, tables_while, step_tables, opening_tables, tables_further, tables_after}
+use Rattle.avm_code.specs.Order.{place_called}
 use Rattle.session_runs.specs.Moves.{Step, run as run_step, ask as ask_step, Effect, silent, happens, sends, asks, answers, starts}
 use Rattle.session_runs.specs.Standing.{Block, root, of, run, ask, deliver, Entry, opened, played, answered as was_answered, failed, starved, State, is_open, is_done, has_failed, has_starved, Standing, opening, makings, next}
 use Rattle.session_runs.specs.History.{standing_after}
@@ -210,14 +211,14 @@ module _ (all : List CodeBlock) (from : Makings) (t : Tables) (f : IsFresh t) (d
   step_fresh : (pass : ℕ) (step : Step) (name : Block) (state : BlockState) → t.blocks name ≡ state → step_in all from pass step name t state ≡ Some w → IsFresh w
   step_fresh pass step name not_started is e = absurd (cc)
   step_fresh pass step name (over result) is e = absurd (cc)
-  step_fresh pass step name (running flag l) is e = by_act (act (record { place = place_in all name; from = from }) t step l) refl e
+  step_fresh pass step name (running flag l) is e = by_act (act (record { place = place_called all (block_name name); from = from }) t step l) refl e
     where
-      by_act : (x : Acted) → act (record { place = place_in all name; from = from }) t step l ≡ x → after_step all pass name flag t x ≡ Some w → IsFresh w
+      by_act : (x : Acted) → act (record { place = place_called all (block_name name); from = from }) t step l ≡ x → after_step all pass name flag t x ≡ Some w → IsFresh w
       by_act None same h = absurd (cc)
       by_act (Some a) same h =
           let there : after_change all pass name flag a.1 (after_machine name flag a.0 a.2 t) ≡ w = some_tables (after_change all pass name flag a.1 (after_machine name flag a.0 a.2 t)) w h in
           let traced : trace_after t.trace a.0 ≡ w.trace = sym (change_trace all pass (after_machine name flag a.0 a.2 t) name flag a.1) ∙ ap (λ x. x.trace) there in
-          subst IsFresh there (change_fresh all pass t f name flag l is a.0 a.1 a.2 (code_agrees (record { place = place_in all name; from = from }) t step l l.rest a same) (λ n. subst (λ xs. occurrences xs n ≤ 1) (sym traced) (once n)))
+          subst IsFresh there (change_fresh all pass t f name flag l is a.0 a.1 a.2 (code_agrees (record { place = place_called all (block_name name); from = from }) t step l l.rest a same) (λ n. subst (λ xs. occurrences xs n ≤ 1) (sym traced) (once n)))
 
   deliver_fresh : (place : List ℕ) (waiting : List (ℕ × Evidence)) → t.requests place ≡ waiting → deliver_first all place t waiting ≡ Some w → IsFresh w
   deliver_fresh place [] is e = absurd (cc)
@@ -319,7 +320,7 @@ delivery_fresh session keys history t place request rest e is =
     all.0
 
 -- so does a fork
-pub fork_fresh : (session : Session) (keys : List (List ℕ × List ℕ)) (history : List Entry) (t : Tables) (name : Block) (flag : Bool) (l : Local) (n : ℕ) (before : Evidence) (after : Local) → tables_after (program_of session.phrase session.root) (makings session keys) (nonce session.nonce) history ≡ Some t → t.state ≡ is_open → t.blocks name ≡ running flag l → act (record { place = place_in (program_of session.phrase session.root) name; from = makings session keys }) t run_step l ≡ Some (happens n, forks n before, after) → t.blocks (of n) ≡ not_started
+pub fork_fresh : (session : Session) (keys : List (List ℕ × List ℕ)) (history : List Entry) (t : Tables) (name : Block) (flag : Bool) (l : Local) (n : ℕ) (before : Evidence) (after : Local) → tables_after (program_of session.phrase session.root) (makings session keys) (nonce session.nonce) history ≡ Some t → t.state ≡ is_open → t.blocks name ≡ running flag l → act (record { place = place_called (program_of session.phrase session.root) (block_name name); from = makings session keys }) t run_step l ≡ Some (happens n, forks n before, after) → t.blocks (of n) ≡ not_started
 fork_fresh session keys history t name flag l n before after e still runs acted =
     by_standing (standing_after session keys history) refl (subst (λ x. AreShown x (standing_after session keys history)) e (history_shown session keys history))
   where

@@ -10,7 +10,8 @@ use Rattle.avm_code.specs.declared.instr.Instr.TheVariants.{Copy, Usm, Kim, Sign
 use Rattle.avm_code.specs.declared.program.Block.{Block as CodeBlock}
 use Rattle.avm_compile.specs.Program.{program_of}
 use Rattle.machine_tables.specs.Row.{Setting, Local, row, replied as replied_machine, joined}
-use Rattle.machine_tables.specs.Tables.{BlockState, not_started, running, over, Tables, place_in, Change, takes, joins, lifts, Acted, result_of, is_asked, acts, acts_unless, acts_with, act_on, act_with, act, Next, next_unless, next_with, next_by, next_in, next_at, next_of}
+use Rattle.machine_tables.specs.Tables.{BlockState, not_started, running, over, Tables, block_name, Change, takes, joins, lifts, Acted, result_of, is_asked, acts, acts_unless, acts_with, act_on, act_with, act, Next, next_unless, next_with, next_by, next_in, next_at, next_of}
+use Rattle.avm_code.specs.Order.{place_called}
 use Rattle.session_runs.specs.Configuration.{Configuration, finished, once_finished}
 use Rattle.session_runs.specs.Moves.{Step, run as run_step, ask as ask_step, in_block, silent, happens, asks, Moved, on_run, only_if, inside, own_moves, inner_moves}
 use Rattle.session_runs.specs.Standing.{Block, root, of, Entry, is_open, Standing, makings}
@@ -153,17 +154,17 @@ end_event run_step result l c = refl
 end_event ask_step result l c = refl
 
 module _ (all : List CodeBlock) (from : Makings) (place : List ℕ) (low high : ℕ) (t : Tables) (s : Standing) (shown : IsShown t s) (still : s.state ≡ is_open) (cells : IsMadeOf s.configuration t) (fits : Fits all place s.configuration low high) (one : (block : Block) → movers_in block (ready_of s.configuration) ≤ 1) where
-  going_event : (name : Block) (site : Site all name s.configuration) → IsGoing site.inner → (step : Step) → acted_in (record { place = place_in all name; from = from }) t step (t.blocks name) ≡ event_of (own_moves from site.place site.inner step)
+  going_event : (name : Block) (site : Site all name s.configuration) → IsGoing site.inner → (step : Step) → acted_in (record { place = place_called all (block_name name); from = from }) t step (t.blocks name) ≡ event_of (own_moves from site.place site.inner step)
   going_event name site going step =
-      by_machine all from t s shown still cells 0 (λ state. acted_in (record { place = place_in all name; from = from }) t step state ≡ event_of (own_moves from site.place site.inner step)) site.for_request (left_of site.inner) (t.blocks name) (subst (λ v. Stands v (t.blocks name)) site.was (cells.blocks name))
+      by_machine all from t s shown still cells 0 (λ state. acted_in (record { place = place_called all (block_name name); from = from }) t step state ≡ event_of (own_moves from site.place site.inner step)) site.for_request (left_of site.inner) (t.blocks name) (subst (λ v. Stands v (t.blocks name)) site.was (cells.blocks name))
       (λ l holds. ap acted_event (site_acts all from t s shown still cells 0 name site going step l holds) ∙ did_event (own_change site.inner) (End ∷ []) [] (told_or (held site.inner) l.evidence) (own_moves from site.place site.inner step))
 
-  finished_event : (name : Block) (for_request : Bool) (result : Evidence) (c : Configuration) → Stands (runs for_request (left_of (finished result))) (t.blocks name) → (step : Step) → acted_in (record { place = place_in all name; from = from }) t step (t.blocks name) ≡ event_of (on_run step silent c)
+  finished_event : (name : Block) (for_request : Bool) (result : Evidence) (c : Configuration) → Stands (runs for_request (left_of (finished result))) (t.blocks name) → (step : Step) → acted_in (record { place = place_called all (block_name name); from = from }) t step (t.blocks name) ≡ event_of (on_run step silent c)
   finished_event name for_request result c stands step =
-      by_machine all from t s shown still cells 0 (λ state. acted_in (record { place = place_in all name; from = from }) t step state ≡ event_of (on_run step silent c)) for_request (left_of (finished result)) (t.blocks name) stands
-      (λ l holds. ap acted_event (end_acts all from t s shown still cells 0 (place_in all name) result step l holds) ∙ end_event step result l c)
+      by_machine all from t s shown still cells 0 (λ state. acted_in (record { place = place_called all (block_name name); from = from }) t step state ≡ event_of (on_run step silent c)) for_request (left_of (finished result)) (t.blocks name) stands
+      (λ l holds. ap acted_event (end_acts all from t s shown still cells 0 (place_called all (block_name name)) result step l holds) ∙ end_event step result l c)
 
-  running_event : (m : ℕ) (v : View) → found root s.configuration m ≡ v → BlockIn all from m v (spot root place s.configuration low high) → (step : Step) → acted_in (record { place = place_in all (of m); from = from }) t step (t.blocks (of m)) ≡ event_of (inner_moves from place s.configuration (in_block m step))
+  running_event : (m : ℕ) (v : View) → found root s.configuration m ≡ v → BlockIn all from m v (spot root place s.configuration low high) → (step : Step) → acted_in (record { place = place_called all (block_name (of m)); from = from }) t step (t.blocks (of m)) ≡ event_of (inner_moves from place s.configuration (in_block m step))
   running_event m v said b step = elim (going_or b.inner) [
     | inl going ↦
         going_event (of m) (block_site all from place low high t s shown still cells fits 0 m v said b) going step
@@ -174,18 +175,18 @@ module _ (all : List CodeBlock) (from : Makings) (place : List ℕ) (low high : 
         ∙ sym (ap event_of (b.steps step ∙ ap (λ c. once_finished c (inside (λ d. b.whole d false) (own_moves from b.place b.inner step)) (λ result. only_if true (on_run step silent (b.whole (finished result) true)))) w.1))
   ]
 
-  idle_event : (m : ℕ) (step : Step) → IsIdle (t.blocks (of m)) → suits (found root s.configuration m) (in_block m step) ≡ false → acted_in (record { place = place_in all (of m); from = from }) t step (t.blocks (of m)) ≡ event_of (inner_moves from place s.configuration (in_block m step))
+  idle_event : (m : ℕ) (step : Step) → IsIdle (t.blocks (of m)) → suits (found root s.configuration m) (in_block m step) ≡ false → acted_in (record { place = place_called all (block_name (of m)); from = from }) t step (t.blocks (of m)) ≡ event_of (inner_moves from place s.configuration (in_block m step))
   idle_event m step idle unsuited = idle_none (t.blocks (of m)) idle ∙ sym (ap event_of (no_deed all from root place s.configuration low high (in_block m step) fits unsuited))
     where
-      idle_none : (state : BlockState) → IsIdle state → acted_in (record { place = place_in all (of m); from = from }) t step state ≡ None
+      idle_none : (state : BlockState) → IsIdle state → acted_in (record { place = place_called all (block_name (of m)); from = from }) t step state ≡ None
       idle_none not_started i = refl
       idle_none (running flag l) i = absurd i
       idle_none (over result) i = refl
 
-  block_event : (m : ℕ) (step : Step) → acted_in (record { place = place_in all (of m); from = from }) t step (t.blocks (of m)) ≡ event_of (inner_moves from place s.configuration (in_block m step))
+  block_event : (m : ℕ) (step : Step) → acted_in (record { place = place_called all (block_name (of m)); from = from }) t step (t.blocks (of m)) ≡ event_of (inner_moves from place s.configuration (in_block m step))
   block_event m step = by_view (found root s.configuration m) refl (cells.blocks (of m))
     where
-      by_view : (v : View) → found root s.configuration m ≡ v → Stands v (t.blocks (of m)) → acted_in (record { place = place_in all (of m); from = from }) t step (t.blocks (of m)) ≡ event_of (inner_moves from place s.configuration (in_block m step))
+      by_view : (v : View) → found root s.configuration m ≡ v → Stands v (t.blocks (of m)) → acted_in (record { place = place_called all (block_name (of m)); from = from }) t step (t.blocks (of m)) ≡ event_of (inner_moves from place s.configuration (in_block m step))
       by_view unseen e stands = idle_event m step stands (ap (λ v. suits v (in_block m step)) e)
       by_view (asks_for name) e stands = idle_event m step stands (ap (λ v. suits v (in_block m step)) e)
       by_view (waits before) e stands = idle_event m step stands (ap (λ v. suits v (in_block m step)) e)
@@ -227,10 +228,10 @@ module _ (all : List CodeBlock) (from : Makings) (place : List ℕ) (low high : 
           ap event_of here ∙ same_event (of m) step (event_in k.0) event (subst (λ xs. IsReady xs (of m) step (event_in k.0)) (sym (going_list going)) (inner_ready from place root s.configuration m step k here)) (subst (λ xs. IsReady xs (of m) step event) (sym (going_list going)) h)
 
   -- the block of the root
-  root_event_going : place_in all root ≡ place → IsGoing s.configuration → (step : Step) → acted_in (record { place = place_in all root; from = from }) t step (t.blocks root) ≡ event_of (own_moves from place s.configuration step)
+  root_event_going : place_called all (block_name root) ≡ place → IsGoing s.configuration → (step : Step) → acted_in (record { place = place_called all (block_name root); from = from }) t step (t.blocks root) ≡ event_of (own_moves from place s.configuration step)
   root_event_going placed going step = going_event root (root_site all from place low high t s shown still cells fits 0 placed) going step
 
-  root_event_over : (value : Evidence) → s.configuration ≡ finished value → (step : Step) → acted_in (record { place = place_in all root; from = from }) t step (t.blocks root) ≡ event_of (on_run step silent (finished value))
+  root_event_over : (value : Evidence) → s.configuration ≡ finished value → (step : Step) → acted_in (record { place = place_called all (block_name root); from = from }) t step (t.blocks root) ≡ event_of (on_run step silent (finished value))
   root_event_over value is step = finished_event root false value (finished value) (subst (λ c. Stands (runs false (left_of c)) (t.blocks root)) is (cells.blocks root)) step
 
   over_to : (block : Block) (step : Step) (event : Option ℕ) (value : Evidence) → IsReady (ready_to root run_step None) block step event → (root ≡ block) × (event_of (on_run step silent (finished value)) ≡ Some event)
@@ -244,19 +245,19 @@ module _ (all : List CodeBlock) (from : Makings) (place : List ℕ) (low high : 
       none_is event e = cc
   over_from ask_step event value e = absurd (cc)
 
-  pub ready_to_acted : place_in all root ≡ place → (name : Block) (step : Step) (event : Option ℕ) → IsReady (ready_of s.configuration) name step event → acted_in (record { place = place_in all name; from = from }) t step (t.blocks name) ≡ Some event
+  pub ready_to_acted : place_called all (block_name root) ≡ place → (name : Block) (step : Step) (event : Option ℕ) → IsReady (ready_of s.configuration) name step event → acted_in (record { place = place_called all (block_name name); from = from }) t step (t.blocks name) ≡ Some event
   ready_to_acted placed root step event h =
-      once_ready (acted_in (record { place = place_in all root; from = from }) t step (t.blocks root) ≡ Some event) s.configuration (ready_in root s.configuration) (λ value. ready_to root run_step None) root step event
+      once_ready (acted_in (record { place = place_called all (block_name root); from = from }) t step (t.blocks root) ≡ Some event) s.configuration (ready_in root s.configuration) (λ value. ready_to root run_step None) root step event
       (λ going k. root_event_going placed going step ∙ root_to step event going k)
       (λ value is k. root_event_over value is step ∙ (over_to root step event value k).1)
       h
   ready_to_acted placed (of m) step event h =
-      once_ready (acted_in (record { place = place_in all (of m); from = from }) t step (t.blocks (of m)) ≡ Some event) s.configuration (ready_in root s.configuration) (λ value. ready_to root run_step None) (of m) step event
+      once_ready (acted_in (record { place = place_called all (block_name (of m)); from = from }) t step (t.blocks (of m)) ≡ Some event) s.configuration (ready_in root s.configuration) (λ value. ready_to root run_step None) (of m) step event
       (λ going k. block_event m step ∙ block_to m step event going k)
       (λ value is k. absurd (root_of m (over_to (of m) step event value k).0))
       h
 
-  pub acted_to_ready : place_in all root ≡ place → (name : Block) (step : Step) (event : Option ℕ) → acted_in (record { place = place_in all name; from = from }) t step (t.blocks name) ≡ Some event → IsReady (ready_of s.configuration) name step event
+  pub acted_to_ready : place_called all (block_name root) ≡ place → (name : Block) (step : Step) (event : Option ℕ) → acted_in (record { place = place_called all (block_name name); from = from }) t step (t.blocks name) ≡ Some event → IsReady (ready_of s.configuration) name step event
   acted_to_ready placed root step event e = elim (going_or s.configuration) [
     | inl going ↦
         let w = moved_from (own_moves from place s.configuration step) event (sym (root_event_going placed going step) ∙ e) in
@@ -283,7 +284,7 @@ ready_shown session keys history s t one e still shown =
     let cells : IsMadeOf s.configuration t = made_still s.state s.configuration t still shown.made in
     let fits : SessionFits session s = fits_after_history session keys history s e in
     let movers : (block : Block) → movers_in block (ready_of s.configuration) ≤ 1 = λ block. history_one_mover session keys history s block e in
-    let same : acted_in (record { place = place_in (program_of session.phrase session.root) one.block; from = makings session keys }) t one.step (t.blocks one.block) ≡ event_by one.step (next_of t one.block) = state_next (record { place = place_in (program_of session.phrase session.root) one.block; from = makings session keys }) t one.step (t.blocks one.block) in (
+    let same : acted_in (record { place = place_called (program_of session.phrase session.root) (block_name one.block); from = makings session keys }) t one.step (t.blocks one.block) ≡ event_by one.step (next_of t one.block) = state_next (record { place = place_called (program_of session.phrase session.root) (block_name one.block); from = makings session keys }) t one.step (t.blocks one.block) in (
       λ h. event_next one.step (next_of t one.block) one.event (sym same ∙ ready_to_acted (program_of session.phrase session.root) (makings session keys) session.root 0 (event_count session.phrase) t s shown still cells fits movers refl one.block one.step one.event (among_ready (ready_of s.configuration) one (among_contains Ready (ready_of s.configuration) one h))),
       λ h. contains_among Ready (ready_of s.configuration) one (ready_among (ready_of s.configuration) one (acted_to_ready (program_of session.phrase session.root) (makings session keys) session.root 0 (event_count session.phrase) t s shown still cells fits movers refl one.block one.step one.event (same ∙ next_event one.step (next_of t one.block) one.event h))),
     )

@@ -7,7 +7,8 @@ use Rattle.session_model.specs.Value.{Makings}
 use Rattle.avm_code.specs.declared.instr.Instr.TheVariants.{End}
 use Rattle.avm_code.specs.declared.program.Block.{Block as CodeBlock}
 use Rattle.machine_tables.specs.Row.{Local}
-use Rattle.machine_tables.specs.Tables.{BlockState, not_started, running, over, Tables, put_block, place_in, Change, nothing, posts, forks, takes, joins, lifts, ends, Acted, act, after_end, after_change, after_machine, after_step, step_in, step_of}
+use Rattle.machine_tables.specs.Tables.{BlockState, not_started, running, over, Tables, put_block, block_name, Change, nothing, posts, forks, takes, joins, lifts, ends, Acted, act, after_end, after_change, after_machine, after_step, step_in, step_of}
+use Rattle.avm_code.specs.Order.{place_called}
 use Rattle.session_runs.specs.Configuration.{Configuration, finished, once_finished}
 use Rattle.session_runs.specs.Moves.{Step, run as run_step, ask as ask_step, in_block, Effect, silent, sends, asks, Moved, on_run, only_if, inside, own_moves, inner_moves}
 use Rattle.session_runs.specs.Standing.{Block, root, of, is_open, is_done, Standing, after, made, root_step}
@@ -33,7 +34,7 @@ pub record Site (all : List CodeBlock) (name : Block) (c : Configuration) : Type
   pub low : ℕ
   pub high : ℕ
   pub whole : Configuration → Configuration
-  pub placed : place_in all name ≡ place
+  pub placed : place_called all (block_name name) ≡ place
   pub fits : Fits all place inner low high
   pub was : found_block c name ≡ runs for_request (left_of inner)
   pub now : (d : Configuration) → found_block (whole d) name ≡ runs for_request (left_of d)
@@ -113,7 +114,7 @@ module _ (all : List CodeBlock) (from : Makings) (t : Tables) (s : Standing) (sh
   by_machine Q for_request left (over result) h f = absurd h
 
   -- the machine of a block that isn't finished acts as its own move
-  pub site_acts : (name : Block) (site : Site all name s.configuration) → IsGoing site.inner → (step : Step) (l : Local) → Holds (left_of site.inner) l → act (record { place = place_in all name; from = from }) t step l ≡ as_did (own_change site.inner) (End ∷ []) [] (told_or (held site.inner) l.evidence) (own_moves from site.place site.inner step)
+  pub site_acts : (name : Block) (site : Site all name s.configuration) → IsGoing site.inner → (step : Step) (l : Local) → Holds (left_of site.inner) l → act (record { place = place_called all (block_name name); from = from }) t step l ≡ as_did (own_change site.inner) (End ∷ []) [] (told_or (held site.inner) l.evidence) (own_moves from site.place site.inner step)
   site_acts name site going step l holds =
       let is_local : l ≡ local (code_left site.inner (End ∷ [])) (told_or (held site.inner) l.evidence) (stack_left site.inner []) = local_same l.rest (code_left site.inner (End ∷ [])) l.evidence (told_or (held site.inner) l.evidence) l.stack (stack_left site.inner []) holds.code (sym holds.evidence) holds.stack in
       ap (λ p. act (setting all from p) t step l) site.placed
@@ -142,7 +143,7 @@ module _ (all : List CodeBlock) (from : Makings) (t : Tables) (s : Standing) (sh
 
   pub finished_acts : (name : Block) (for_request : Bool) (result : Evidence) → Stands (runs for_request (left_of (finished result))) (t.blocks name) → (Q : Option Tables → Type 0) (step : Step) → ((l : Local) → Holds (left_of (finished result)) l → Q (after_step all pass name for_request t (end_of step result l))) → Q (step_of all from pass step name t)
   finished_acts name for_request result stands Q step f =
-      by_machine (λ state. Q (step_in all from pass step name t state)) for_request (left_of (finished result)) (t.blocks name) stands (λ l holds. subst Q (ap (λ (x : Acted). after_step all pass name for_request t x) (sym (end_acts (place_in all name) result step l holds))) (f l holds))
+      by_machine (λ state. Q (step_in all from pass step name t state)) for_request (left_of (finished result)) (t.blocks name) stands (λ l holds. subst Q (ap (λ (x : Acted). after_step all pass name for_request t x) (sym (end_acts (place_called all (block_name name)) result step l holds))) (f l holds))
 
 -- a block that ends, of what is said of the blocks
 pub record EndsAt (m : ℕ) (for_request : Bool) (c d : Configuration) (result : Evidence) : Type 0 where
@@ -229,7 +230,7 @@ module _ (all : List CodeBlock) (from : Makings) (place : List ℕ) (low high : 
   pub root_is_none : (n : ℕ) → root ≡ of n → ⊥
   root_is_none n e = cc
 
-  abbrev pub root_site : place_in all root ≡ place → Site all root s.configuration
+  abbrev pub root_site : place_called all (block_name root) ≡ place → Site all root s.configuration
   root_site placed = record {
     for_request = false;
     place = place;
@@ -249,7 +250,7 @@ module _ (all : List CodeBlock) (from : Makings) (place : List ℕ) (low high : 
   }
 
   -- the root: its steps, and its end, which is the session's
-  pub root_shown : place_in all root ≡ place → (step : Step) → AreShown (step_of all from pass step root t) (root_step from place pass s step)
+  pub root_shown : place_called all (block_name root) ≡ place → (step : Step) → AreShown (step_of all from pass step root t) (root_step from place pass s step)
   root_shown placed step = elim (going_or s.configuration) [
     | inl going ↦
         let at_last : AreShown (step_of all from pass step root t) (made pass s (own_moves from place s.configuration step)) = subst (λ x. AreShown (step_of all from pass step root t) (made pass s x)) (inside_itself (own_moves from place s.configuration step)) (going_shown all from t s shown still cells pass root (root_site placed) going step) in

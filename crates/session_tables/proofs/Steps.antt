@@ -9,7 +9,8 @@ use Rattle.avm_code.specs.declared.instr.Instr.TheVariants.{End}
 use Rattle.avm_code.specs.declared.program.Block.{Block as CodeBlock}
 use Rattle.avm_compile.specs.Laws.{IsBlockOf}
 use Rattle.machine_tables.specs.Row.{Local}
-use Rattle.machine_tables.specs.Tables.{BlockState, running, Tables, same_name, put_block, put_ask, first_code, started, posts, forks, takes, joins, lifts, trace_after, after_change, after_machine}
+use Rattle.machine_tables.specs.Tables.{BlockState, running, Tables, same_name, put_block, put_ask, started, posts, forks, takes, joins, lifts, trace_after, after_change, after_machine}
+use Rattle.avm_code.specs.Order.{first_code}
 use Rattle.session_runs.specs.Configuration.{Configuration, start}
 use Rattle.session_runs.specs.Moves.{Effect, silent, happens, sends, asks, answers, starts}
 use Rattle.session_runs.specs.Standing.{Block, root, of, State, is_open, Standing, after}

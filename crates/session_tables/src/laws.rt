@@ -1,6 +1,7 @@
 ghost use Rattle.std.specs.Prelude.{◌≡◌, ◌↔◌, ℕ, Bool, List, ◌∷◌, Some, Contains};
 ghost use Rattle.machine_tables.specs.Row.{Local};
-ghost use Rattle.machine_tables.specs.Tables.{not_started, running, Tables, place_in, forks, act, next_of, step_tables, tables_after};
+ghost use Rattle.machine_tables.specs.Tables.{not_started, running, Tables, block_name, forks, act, next_of, step_tables, tables_after};
+ghost use Rattle.avm_code.specs.Order.{place_called};
 ghost use Rattle.evidence_types.specs.Evidence.{Evidence, nonce};
 ghost use Rattle.avm_compile.specs.Program.{program_of};
 ghost use Rattle.session_model.specs.Session.{Session};
@@ -72,7 +73,7 @@ pub fn start_law()
         tables.state ≡ is_open →
         tables.blocks name ≡ running for_request local →
         act
-        (record { place = place_in (program_of session.phrase session.root) name; from = makings session keys })
+        (record { place = place_called (program_of session.phrase session.root) (block_name name); from = makings session keys })
         tables
         run
         local
