@@ -1,5 +1,6 @@
 mod WorkedSchedules
 mod WorkedSessions
+mod WorkedRoom
 pub mod Induction
 pub mod EntryLaws
 pub mod CountLaws
@@ -12,6 +13,7 @@ pub mod ProgressLaws
 pub mod ValueLaws
 pub mod QuestionLaws
 pub mod RecordLaws
+pub mod RoomLaws
 pub mod ReadyLaws
 pub mod StepLaws
 pub mod ListingLaws
@@ -19,6 +21,8 @@ pub mod ResultLaws
 pub mod OwnerLaws
 pub mod PlaceLaws
 pub mod HistoryLaws
+pub mod FlightLaws
+pub mod OrderedLaws
 pub mod ScheduleLaws
 pub mod NextEvent
 pub mod RisingLaws

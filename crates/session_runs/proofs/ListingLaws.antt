@@ -49,7 +49,7 @@ among_right : (A : Type 0) (xs ys : List A) (x : A) → IsAmong ys x → IsAmong
 among_right A [] ys x h = h
 among_right A (y ∷ xs) ys x h = inr (among_right A xs ys x h)
 
-among_split : (A : Type 0) (xs ys : List A) (x : A) → IsAmong (xs ++ ys) x → IsAmong xs x ⊎ IsAmong ys x
+pub among_split : (A : Type 0) (xs ys : List A) (x : A) → IsAmong (xs ++ ys) x → IsAmong xs x ⊎ IsAmong ys x
 among_split A [] ys x h = inr h
 among_split A (y ∷ xs) ys x (inl h) = inl (inl h)
 among_split A (y ∷ xs) ys x (inr h) = elim (among_split A xs ys x h) [

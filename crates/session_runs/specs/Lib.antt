@@ -6,6 +6,9 @@ pub mod Owner
 pub mod Progress
 pub mod Rising
 pub mod MoveOrder
+pub mod Ordered
+pub mod Flights
+pub mod Room
 pub mod Schedule
 pub mod Played
 pub mod WrongHistories
