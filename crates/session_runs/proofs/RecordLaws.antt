@@ -113,7 +113,7 @@ brings Gives Fails Starves questions (starved pass event) effect fits h = brings
 abbrev pub Answered : (Ask → List ℕ → Type 0) → Session → Standing → Type 0
 Answered Gives session s = IsAnswered Gives (session_questions session) (rest_of session.phrase 0) (rest s.configuration) s.answers
 
-asked_once : (session : Session) (s : Standing) → Told session s → (n : ℕ) → asked_count (rest s.configuration) n ≤ 1
+pub asked_once : (session : Session) (s : Standing) → Told session s → (n : ℕ) → asked_count (rest s.configuration) n ≤ 1
 asked_once session s told n =
     omega (arith, asked_counted (rest s.configuration) n, told.counted n, phrase_once session.phrase n)
 

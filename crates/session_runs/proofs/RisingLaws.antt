@@ -15,7 +15,7 @@ use Rattle.session_runs.specs.Standing.{Block, root, of, Move, run, ask, deliver
 use Rattle.session_runs.specs.History.{standing_after}
 use Rattle.session_runs.specs.MoveOrder.{Ready, ready_to, where_true, ready_phrase, ready_block, ready_in, ready_of, rank, ranked, put_event, put_silent, silent_ones, event_ones, move_by, moves_by, deliveries, moves_where, possible_moves, asks_in_order, leaf_step}
 use Rattle.session_runs.specs.Progress.{Adds}
-use Rattle.session_runs.specs.Schedule.{Draw, drawn_of, draw, Walked, all_opened, result_entry, results_first, candidates, is_running, with_entry, nth_entry, with_choice, chosen, Round, ahead, moved_on, one_round, rounds, open_count, one_starves, entries_at_most, first_from, scheduled}
+use Rattle.session_runs.specs.Schedule.{Draw, drawn_of, draw, Walked, all_opened, result_entry, results_first, candidates, is_running, with_entry, nth_candidate, with_choice, chosen, Round, ahead, moved_on, one_round, rounds, open_count, one_starves, entries_at_most, first_from, scheduled}
 use Rattle.session_runs.specs.Played.{AsksOnly, AskOnly}
 use Rattle.session_runs.specs.Rising.{FailsAt, AreRising}
 use Rattle.session_runs.proofs.EntryLaws.{Onward, moved, root_ended, faulted, starves, onward, some_is, made_is, no_standing, once_finished_any, where_open_is, if_standing, after_state, after_configuration, inner_effect}
@@ -469,19 +469,19 @@ no_entry Q entry e = absurd (cc)
 
 -- the first candidate keeps the order
 module _ (session : Session) (keys : List (List ℕ × List ℕ)) (places : List (List ℕ)) (results : ℕ → Result (List ℕ) MeasureError) (history : List Entry) (s : Standing) (e : standing_after session keys history ≡ Some s) (only : AsksOnly places session.phrase) (o : IsInOrder s) where
-  by_moves : (no_ask : s.in_flight ≡ []) (still : s.state ≡ is_open) (moves : List Move) (entry : Entry) (t : Standing) → deliveries places s.requests ++ (moves_by (silent_ones (ready_of s.configuration)) ++ moves_by (event_ones (ready_of s.configuration))) ≡ moves → nth_entry (results_first results [] moves) 0 ≡ Some entry → next session keys s entry ≡ Some t → IsInOrder t
+  by_moves : (no_ask : s.in_flight ≡ []) (still : s.state ≡ is_open) (moves : List Move) (entry : Entry) (t : Standing) → deliveries places s.requests ++ (moves_by (silent_ones (ready_of s.configuration)) ++ moves_by (event_ones (ready_of s.configuration))) ≡ moves → nth_candidate (results_first results [] moves) 0 ≡ Some entry → next session keys s entry ≡ Some t → IsInOrder t
   by_moves no_ask still [] entry t listed head n = no_entry (IsInOrder t) entry head
   by_moves no_ask still (move ∷ moves) entry t listed head n =
       move_order session keys places history s e still only o no_ask move moves t listed (subst (λ x. next session keys s x ≡ Some t) (sym (some_is Entry (played 0 move) entry head)) n)
 
-  first_order : (entry : Entry) (t : Standing) → s.state ≡ is_open → nth_entry (candidates places results s) 0 ≡ Some entry → next session keys s entry ≡ Some t → IsInOrder t
+  first_order : (entry : Entry) (t : Standing) → s.state ≡ is_open → nth_candidate (candidates places results s) 0 ≡ Some entry → next session keys s entry ≡ Some t → IsInOrder t
   first_order entry t still head n = elim o.flying [
     | inl no_ask ↦
         by_moves no_ask still (deliveries places s.requests ++ (moves_by (silent_ones (ready_of s.configuration)) ++ moves_by (event_ones (ready_of s.configuration)))) entry t refl
-        (subst (λ x. nth_entry (results_first results [] (moves_where places s x)) 0 ≡ Some entry) still (subst (λ xs. nth_entry (results_first results (asks_in_order xs) (possible_moves places s)) 0 ≡ Some entry) no_ask head)) n
+        (subst (λ x. nth_candidate (results_first results [] (moves_where places s x)) 0 ≡ Some entry) still (subst (λ xs. nth_candidate (results_first results (asks_in_order xs) (possible_moves places s)) 0 ≡ Some entry) no_ask head)) n
     | inr flies ↦
         let k = length s.trace in
-        let result_head : nth_entry (results_first results (asks_in_order ((k, 0) ∷ [])) (possible_moves places s)) 0 ≡ Some entry = subst (λ xs. nth_entry (results_first results (asks_in_order xs) (possible_moves places s)) 0 ≡ Some entry) flies head in
+        let result_head : nth_candidate (results_first results (asks_in_order ((k, 0) ∷ [])) (possible_moves places s)) 0 ≡ Some entry = subst (λ xs. nth_candidate (results_first results (asks_in_order xs) (possible_moves places s)) 0 ≡ Some entry) flies head in
         let is_result : result_entry k (results k) ≡ entry = some_is Entry (result_entry k (results k)) entry result_head in
         result_order session keys s k o refl flies (results k) t (subst (λ x. next session keys s x ≡ Some t) (sym is_result) n)
   ]
@@ -506,14 +506,14 @@ AreInOrder (walked ∷ all) = IsInOrder walked.standing × AreInOrder all
 chosen_order : (session : Session) (keys : List (List ℕ × List ℕ)) (places : List (List ℕ)) (results : ℕ → Result (List ℕ) MeasureError) (walked : Walked) → IsFine keys results session walked → AsksOnly places session.phrase → IsInOrder walked.standing → walked.standing.state ≡ is_open → IsInOrder (chosen keys walked (candidates places results walked.standing) None).walked.standing
 chosen_order session keys places results walked fine only o still =
     let entries = candidates places results walked.standing in
-    subst (λ k. IsInOrder (with_choice keys walked (nth_entry entries k)).standing) (sym (draws_first (length entries)).zeroth) (by_choice (nth_entry entries 0) refl)
+    subst (λ k. IsInOrder (with_choice keys walked (nth_candidate entries k)).standing) (sym (draws_first (length entries)).zeroth) (by_choice (nth_candidate entries 0) refl)
   where
-    by_next : (entry : Entry) → nth_entry (candidates places results walked.standing) 0 ≡ Some entry → (x : Option Standing) → next walked.session keys walked.standing entry ≡ x → IsInOrder (with_entry walked entry x).standing
+    by_next : (entry : Entry) → nth_candidate (candidates places results walked.standing) 0 ≡ Some entry → (x : Option Standing) → next walked.session keys walked.standing entry ≡ x → IsInOrder (with_entry walked entry x).standing
     by_next entry head None n = o
     by_next entry head (Some t) n =
         first_order session keys places results walked.history walked.standing fine.plays.stands only o entry t still head (sym (ap (λ y. next y keys walked.standing entry) fine.plays.same) ∙ n)
 
-    by_choice : (x : Option Entry) → nth_entry (candidates places results walked.standing) 0 ≡ x → IsInOrder (with_choice keys walked x).standing
+    by_choice : (x : Option Entry) → nth_candidate (candidates places results walked.standing) 0 ≡ x → IsInOrder (with_choice keys walked x).standing
     by_choice None head = o
     by_choice (Some entry) head = by_next entry head (next walked.session keys walked.standing entry) refl
 

@@ -11,7 +11,7 @@ use Rattle.session_runs.specs.Standing.{root, of, Move, run, ask, deliver, Entry
 use Rattle.session_runs.specs.History.{standing_after}
 use Rattle.session_runs.specs.MoveOrder.{possible_moves, asks_ranked, asks_in_order}
 use Rattle.session_runs.specs.Progress.{CanCome, IsAwaited}
-use Rattle.session_runs.specs.Schedule.{stirred, drawn_of, draw, Walked, just_opened, all_opened, result_entry, results_first, candidates, is_running, open_count, one_starves, with_entry, nth_entry, with_choice, chosen, Round, ahead, moved_on, one_round, rounds, entries_at_most, first_from, scheduled}
+use Rattle.session_runs.specs.Schedule.{stirred, drawn_of, draw, Walked, just_opened, all_opened, result_entry, results_first, candidates, is_running, open_count, one_starves, with_entry, nth_candidate, with_choice, chosen, Round, ahead, moved_on, one_round, rounds, entries_at_most, first_from, scheduled}
 use Rattle.session_runs.specs.Played.{AsksOnly, AskOnly, IsWalked, AreWalked, IsPlayed, ArePlayed, AreOver}
 use Rattle.session_runs.proofs.Induction.{Made}
 use Rattle.session_runs.proofs.EntryLaws.{some_is, made_is, no_standing, once_finished_any, where_open_is, if_standing}
@@ -161,7 +161,7 @@ candidate_comes session keys places results history s entry e still zeros h =
 -- the entry of an index below their number
 record IsNth (entries : List Entry) (k : ℕ) : Type 0 where
   entry : Entry
-  there : nth_entry entries k ≡ Some entry
+  there : nth_candidate entries k ≡ Some entry
   among : IsAmong entries entry
 
 nth_there : (entries : List Entry) (k : ℕ) → k < length entries → IsNth entries k
@@ -189,9 +189,9 @@ fine_opened : (keys : List (List ℕ × List ℕ)) (results : ℕ → Result (Li
 fine_opened keys results session = record { plays = record { same = refl; stands = refl; entries = (tt, tt) }; zeros = tt }
 
 -- it is played on by an entry that can come
-record Goes (keys : List (List ℕ × List ℕ)) (results : ℕ → Result (List ℕ) MeasureError) (session : Session) (walked after_it : Walked) : Type 0 where
-  fine : IsFine keys results session after_it
-  grown : length after_it.history ≡ length walked.history + 1
+pub record Goes (keys : List (List ℕ × List ℕ)) (results : ℕ → Result (List ℕ) MeasureError) (session : Session) (walked after_it : Walked) : Type 0 where
+  pub fine : IsFine keys results session after_it
+  pub grown : length after_it.history ≡ length walked.history + 1
 
 module _ (keys : List (List ℕ × List ℕ)) (results : ℕ → Result (List ℕ) MeasureError) (session : Session) (walked : Walked) (fine : IsFine keys results session walked) where
   goes_with : (entry : Entry) → Comes session keys results walked.standing entry → Goes keys results session walked (with_entry walked entry (next walked.session keys walked.standing entry))
@@ -210,7 +210,7 @@ module _ (keys : List (List ℕ × List ℕ)) (results : ℕ → Result (List �
         grown = omega (arith, length-append walked.history (entry ∷ []));
       })
 
-  goes_chosen : (places : List (List ℕ)) (from : Option ℕ) → AsksOnly places session.phrase → walked.standing.state ≡ is_open → Goes keys results session walked (chosen keys walked (candidates places results walked.standing) from).walked
+  pub goes_chosen : (places : List (List ℕ)) (from : Option ℕ) → AsksOnly places session.phrase → walked.standing.state ≡ is_open → Goes keys results session walked (chosen keys walked (candidates places results walked.standing) from).walked
   goes_chosen places from only still =
       let entries = candidates places results walked.standing in
       let some : 1 ≤ length entries = elim (history_lists_one session keys places walked.history walked.standing only fine.plays.stands still) [
@@ -314,13 +314,13 @@ record IsEnd (keys : List (List ℕ × List ℕ)) (results : ℕ → ℕ → Res
 
 module _ (places : List (List ℕ)) (keys : List (List ℕ × List ℕ)) (results : ℕ → ℕ → Result (List ℕ) MeasureError) (sessions : List Session) (only : AskOnly places sessions) where
   -- a round adds an entry where a session is open
-  round_moves : (round : Round) → AreFine keys results 0 sessions round.all → 1 ≤ open_count round.all → AreFine keys results 0 sessions (one_round places keys results round).all × (total (one_round places keys results round).all ≡ total round.all + 1)
+  pub round_moves : (round : Round) → AreFine keys results 0 sessions round.all → 1 ≤ open_count round.all → AreFine keys results 0 sessions (one_round places keys results round).all × (total (one_round places keys results round).all ≡ total round.all + 1)
   round_moves round fine some =
       let d = draw (open_count round.all) round.from in
       let m : MovesOne keys results 0 sessions round.all d.drawn (moved_on places keys results 0 round.all d.drawn d.from).all = moves_one places keys results 0 sessions round.all d.drawn d.from only fine in
       (m.fine, m.grown (drawn_below (open_count round.all) round.from some))
 
-  some_open : (count : ℕ) → nat_eq count 0 ≡ false → 1 ≤ count
+  pub some_open : (count : ℕ) → nat_eq count 0 ≡ false → 1 ≤ count
   some_open count e = elim (cases_lt 0 count) [
     | inl lt ↦ omega (arith, lt)
     | inr ge ↦ absurd (clash (nat_eq count 0) (eq-eqb count 0 (omega (arith, ge))) e)

@@ -12,3 +12,6 @@ pub mod Room
 pub mod Schedule
 pub mod Played
 pub mod WrongHistories
+pub mod Light
+pub mod Results
+pub mod ByFaults

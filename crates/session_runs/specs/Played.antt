@@ -5,6 +5,8 @@ use Rattle.bench_trait.specs.declared.ask.Ask.{Ask}
 use Rattle.bench_trait.specs.declared.bench.BenchFault.{BenchFault}
 use Rattle.bench_trait.specs.declared.bench.MeasureError.{MeasureError}
 use Rattle.bench_trait.specs.declared.bench.MeasureError.TheVariants.{Fault, NoMemory}
+use Rattle.bench_trait.specs.Asking.{question_among}
+use Rattle.bench_trait.specs.Bench.{MatchMeasured}
 use Rattle.session_model.specs.Session.{Session, session_questions}
 use Rattle.session_runs.specs.Standing.{Entry, opened, played, answered, failed, starved}
 use Rattle.session_runs.specs.History.{standing_after, IsLegal}
@@ -35,6 +37,11 @@ abbrev pub AreWalked : (ℕ → Result (List ℕ) MeasureError) → List Entry �
 AreWalked results [] = Unit {0}
 AreWalked results (entry ∷ entries) = IsWalked results entry × AreWalked results entries
 
+-- that of each of these sessions; `number` is that of the first
+abbrev pub AllWalked : (ℕ → ℕ → Result (List ℕ) MeasureError) → ℕ → List Walked → Type 0
+AllWalked results number [] = Unit {0}
+AllWalked results number (walked ∷ all) = AreWalked (results number) walked.history × AllWalked results (number + 1) all
+
 -- this session, with a history that it can have and that has these results, and as it stands after it
 pub record IsPlayed (keys : List (List ℕ × List ℕ)) (results : ℕ → Result (List ℕ) MeasureError) (session : Session) (walked : Walked) : Type 0 where
   pub same : walked.session ≡ session
@@ -53,22 +60,29 @@ ArePlayed keys results number (session ∷ sessions) (walked ∷ all) =
 abbrev pub AreOver : List Walked → Type 0
 AreOver all = (open_count all ≡ 0) ⊎ (one_starves all ≡ true)
 
--- a result of a measurement is one of the bench for its question
-abbrev pub IsMeasured : (Ask → List ℕ → Type 0) → (Ask → BenchFault → Type 0) → (Ask → Type 0) → Ask → Result (List ℕ) MeasureError → Type 0
-IsMeasured Gives Fails Starves ask (Ok bytes) = Gives ask bytes
-IsMeasured Gives Fails Starves ask (Err (Fault fault)) = Fails ask fault
-IsMeasured Gives Fails Starves ask (Err NoMemory) = Starves ask
+-- the result of an event is one of the bench for its question, where it has one
+abbrev pub IsMeasured : (Ask → List ℕ → Type 0) → (Ask → BenchFault → Type 0) → (Ask → Type 0) → (ℕ → Result (List ℕ) MeasureError) → List Ask → ℕ → Type 0
+IsMeasured Gives Fails Starves results asks event =
+    (ask : Ask) → question_among asks event ≡ Some ask → MatchMeasured (results event) (Gives ask) (Fails ask) (Starves ask)
 
--- each result of a session is one of the bench, and each of the sessions of a job; `number` is that of the first
-abbrev pub AreMeasured : (Ask → List ℕ → Type 0) → (Ask → BenchFault → Type 0) → (Ask → Type 0) → (ℕ → Result (List ℕ) MeasureError) → List Ask → Type 0
-AreMeasured Gives Fails Starves results [] = Unit {0}
-AreMeasured Gives Fails Starves results (ask ∷ asks) =
-    IsMeasured Gives Fails Starves ask (results ask.event) × AreMeasured Gives Fails Starves results asks
+-- that of the event of an entry, where it is a result
+abbrev pub IsMeasuredAt : (Ask → List ℕ → Type 0) → (Ask → BenchFault → Type 0) → (Ask → Type 0) → (ℕ → Result (List ℕ) MeasureError) → List Ask → Entry → Type 0
+IsMeasuredAt Gives Fails Starves results asks (answered pass event bytes) = IsMeasured Gives Fails Starves results asks event
+IsMeasuredAt Gives Fails Starves results asks (failed pass event fault) = IsMeasured Gives Fails Starves results asks event
+IsMeasuredAt Gives Fails Starves results asks (starved pass event) = IsMeasured Gives Fails Starves results asks event
+IsMeasuredAt Gives Fails Starves results asks _ = Unit {0}
 
-abbrev pub AllMeasured : (Ask → List ℕ → Type 0) → (Ask → BenchFault → Type 0) → (Ask → Type 0) → (ℕ → ℕ → Result (List ℕ) MeasureError) → ℕ → List Session → Type 0
+-- each result that stands in a history is one of the bench
+abbrev pub AreMeasured : (Ask → List ℕ → Type 0) → (Ask → BenchFault → Type 0) → (Ask → Type 0) → (ℕ → Result (List ℕ) MeasureError) → List Ask → List Entry → Type 0
+AreMeasured Gives Fails Starves results asks [] = Unit {0}
+AreMeasured Gives Fails Starves results asks (entry ∷ entries) =
+    IsMeasuredAt Gives Fails Starves results asks entry × AreMeasured Gives Fails Starves results asks entries
+
+-- each that stands in the histories of these sessions; `number` is that of the first
+abbrev pub AllMeasured : (Ask → List ℕ → Type 0) → (Ask → BenchFault → Type 0) → (Ask → Type 0) → (ℕ → ℕ → Result (List ℕ) MeasureError) → ℕ → List Walked → Type 0
 AllMeasured Gives Fails Starves results number [] = Unit {0}
-AllMeasured Gives Fails Starves results number (session ∷ sessions) =
-    AreMeasured Gives Fails Starves (results number) (session_questions session) × AllMeasured Gives Fails Starves results (number + 1) sessions
+AllMeasured Gives Fails Starves results number (walked ∷ all) =
+    AreMeasured Gives Fails Starves (results number) (session_questions walked.session) walked.history × AllMeasured Gives Fails Starves results (number + 1) all
 
 -- each of these sessions has a legal history
 abbrev pub AreLegal : (Ask → List ℕ → Type 0) → (Ask → BenchFault → Type 0) → (Ask → Type 0) → List (List ℕ × List ℕ) → List Session → List Walked → Type 0

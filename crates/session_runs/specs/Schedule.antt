@@ -79,10 +79,10 @@ with_entry walked entry None = walked
 with_entry walked entry (Some standing) = record walked { history = walked.history ++ entry ∷ []; standing = standing }
 
 -- the candidate of this index
-abbrev pub nth_entry : List Entry → ℕ → Option Entry
-nth_entry [] k = None
-nth_entry (entry ∷ rest) zero = Some entry
-nth_entry (entry ∷ rest) (suc k) = nth_entry rest k
+abbrev pub nth_candidate : List Entry → ℕ → Option Entry
+nth_candidate [] k = None
+nth_candidate (entry ∷ rest) zero = Some entry
+nth_candidate (entry ∷ rest) (suc k) = nth_candidate rest k
 
 -- a session after a candidate, where there is one
 abbrev pub with_choice : List (List ℕ × List ℕ) → Walked → Option Entry → Walked
@@ -98,7 +98,7 @@ pub record Chosen : Type 0 where
 abbrev pub chosen : List (List ℕ × List ℕ) → Walked → List Entry → Option ℕ → Chosen
 chosen keys walked entries from =
     let d = draw (length entries) from in
-    record { walked = with_choice keys walked (nth_entry entries d.drawn); from = d.from }
+    record { walked = with_choice keys walked (nth_candidate entries d.drawn); from = d.from }
 
 -- how the sessions of a job go on: those passed over, the one chosen, those behind it
 pub record Round : Type 0 where
@@ -145,8 +145,15 @@ abbrev pub first_from : ℕ → Option ℕ
 first_from zero = None
 first_from (suc n) = Some n
 
+-- the sessions of a job before the first round, and after so many rounds
+abbrev pub begun : List Session → ℕ → Round
+begun sessions number = record { all = all_opened sessions; from = first_from number }
+
+abbrev pub after_rounds : List (List ℕ) → List (List ℕ × List ℕ) → (ℕ → ℕ → Result (List ℕ) MeasureError) → List Session → ℕ → ℕ → Round
+after_rounds places keys results sessions number count = rounds places keys results count (begun sessions number)
+
 -- the sessions of a job as the schedule of a number plays them, where the results of the bench are these,
 -- by the number of the session and of the event
 abbrev pub scheduled : List (List ℕ) → List (List ℕ × List ℕ) → (ℕ → ℕ → Result (List ℕ) MeasureError) → List Session → ℕ → List Walked
 scheduled places keys results sessions number =
-    (rounds places keys results (entries_at_most sessions) (record { all = all_opened sessions; from = first_from number })).all
+    (after_rounds places keys results sessions number (entries_at_most sessions)).all

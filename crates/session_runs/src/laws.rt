@@ -96,8 +96,8 @@ pub fn schedule_law()
         × AreOver (scheduled places keys results sessions number) }
 {}
 
-/// The law of legal schedules: if the results given are those of a bench, the sessions have legal
-/// histories as a schedule plays them.
+/// The law of legal schedules: as a schedule plays the sessions of a job, they have legal histories if
+/// the results that stand in these are those of a bench.
 pub fn legal_schedule_law<B: Bench>(bench: &B, artefacts: &ArtefactBook)
     ensures { (places : List (List ℕ)) (keys : List (List ℕ × List ℕ)) (results : ℕ → ℕ → Result (List ℕ) MeasureError) (sessions : List Session) (number : ℕ) →
         AskOnly places sessions →
@@ -107,7 +107,7 @@ pub fn legal_schedule_law<B: Bench>(bench: &B, artefacts: &ArtefactBook)
         (λ ask. B.starves bench.now artefacts.now ask)
         results
         0
-        sessions →
+        (scheduled places keys results sessions number) →
         AreLegal
         (λ ask answer. B.gives bench.now artefacts.now ask answer)
         (λ ask fault. B.fails bench.now artefacts.now ask fault)

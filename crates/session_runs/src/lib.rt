@@ -7,8 +7,10 @@ mod flights;
 #[cfg(test)]
 mod law_tests;
 mod laws;
+mod light;
 mod order;
 mod room;
+mod schedules;
 #[cfg(test)]
 mod tests;
 mod wrong;
@@ -18,6 +20,8 @@ pub use laws::{
     choice_law, growth_law, legal_schedule_law, length_law, listing_law, owner_law, progress_law,
     record_law, result_law, rising_law, rising_record_law, schedule_law, trace_law,
 };
+pub use light::light_law;
 pub use order::order_law;
 pub use room::{done_law, room_law};
+pub use schedules::{fault_law, result_count_law, rounds_law};
 pub use wrong::wrong_histories;

@@ -12,6 +12,7 @@ use Rattle.session_runs.specs.Configuration.{Configuration, asked, finished, mea
 use Rattle.session_runs.specs.Moves.{answer, answers, Moved, inside, inner_moves}
 use Rattle.session_runs.specs.Standing.{Block, of}
 use Rattle.session_tables.specs.Left.{code_left, held, stack_left, Left, left_of}
+use Rattle.session_tables.specs.NextFits.{Measures}
 use Rattle.session_tables.specs.Found.{View, unseen, asks_for, runs, block_view, found}
 use Rattle.session_tables.proofs.Fitting.{Fits, if_other, if_same}
 use Rattle.session_tables.proofs.Frames.{Same, Spot, spot, Around, Own, Cross}
@@ -22,6 +23,7 @@ use Rattle.session_tables.proofs.OwnMoves.{IsTouched, by_range, touched_whole}
 pub record OwnAnswer (all : List CodeBlock) (from : Makings) (n : ℕ) (s : Spot) : Type 0 where
   pub instr : Instr
   pub before : Evidence
+  pub measures : Measures n instr
   pub after : List ℕ → Configuration
   pub code : (bytes : List ℕ) (k : List Instr) → code_left s.now k ≡ instr ∷ code_left (after bytes) k
   pub was_held : held s.now ≡ Some before
@@ -32,9 +34,10 @@ pub record OwnAnswer (all : List CodeBlock) (from : Makings) (n : ℕ) (s : Spot
   pub touched : (bytes : List ℕ) → IsTouched s.name s.now (after bytes) s.low s.high n (asks_for s.name) unseen
 
 -- what is left of a block is less by the measurement that was answered
-pub record IsAnswered (was now : Left) (bytes : List ℕ) : Type 0 where
+pub record IsAnswered (n : ℕ) (was now : Left) (bytes : List ℕ) : Type 0 where
   pub instr : Instr
   pub before : Evidence
+  pub measures : Measures n instr
   pub code : was.code ≡ instr ∷ now.code
   pub was_held : was.evidence ≡ Some before
   pub now_held : now.evidence ≡ Some (measured instr bytes before)
@@ -46,7 +49,7 @@ pub record LowerAnswer (all : List CodeBlock) (from : Makings) (n m : ℕ) (s : 
   pub was : Left
   pub now : List ℕ → Left
   pub after : List ℕ → Configuration
-  pub goes_on : (bytes : List ℕ) → IsAnswered was (now bytes) bytes
+  pub goes_on : (bytes : List ℕ) → IsAnswered n was (now bytes) bytes
   pub block_range : InRange s.low s.high m
   pub apart : n ≡ m → ⊥
   pub block_was : found s.name s.now m ≡ runs for_request was
@@ -82,6 +85,7 @@ module _ (all : List CodeBlock) (from : Makings) where
   own_asked n name place (usm asp) before low high h = record {
     instr = Usm n asp;
     before = before;
+    measures = refl;
     after = λ bytes. finished (measurement (usm asp) n bytes before);
     code = λ bytes k. refl;
     was_held = refl;
@@ -94,6 +98,7 @@ module _ (all : List CodeBlock) (from : Makings) where
   own_asked n name place (kim target asp) before low high h = record {
     instr = Kim n target asp;
     before = before;
+    measures = refl;
     after = λ bytes. finished (measurement (kim target asp) n bytes before);
     code = λ bytes k. refl;
     was_held = refl;
@@ -108,6 +113,7 @@ module _ (all : List CodeBlock) (from : Makings) where
   own_whole n name place c low high part from_low from_high o r a = record {
     instr = a.instr;
     before = a.before;
+    measures = a.measures;
     after = λ bytes. o.around.whole (a.after bytes);
     code = λ bytes k. o.was_code k ∙ a.code bytes (o.behind k) ∙ ap (λ x. a.instr ∷ x) (sym (o.code (a.after bytes) k));
     was_held = o.was_evidence ∙ a.was_held;
@@ -118,10 +124,11 @@ module _ (all : List CodeBlock) (from : Makings) where
     touched = λ bytes. touched_whole all from (spot name place c low high) (spot name place part from_low from_high) o.around (a.after bytes) n (asks_for name) unseen (λ k out. o.outside (a.after bytes) k (a.kept bytes) out) (a.touched bytes);
   }
 
-  pub answered_left : (n : ℕ) (s : Spot) (a : OwnAnswer all from n s) (bytes : List ℕ) → IsAnswered (left_of s.now) (left_of (a.after bytes)) bytes
+  pub answered_left : (n : ℕ) (s : Spot) (a : OwnAnswer all from n s) (bytes : List ℕ) → IsAnswered n (left_of s.now) (left_of (a.after bytes)) bytes
   answered_left n s a bytes = record {
     instr = a.instr;
     before = a.before;
+    measures = a.measures;
     code = a.code bytes (End ∷ []);
     was_held = a.was_held;
     now_held = a.now_held bytes;

@@ -125,8 +125,8 @@ module _ (all : List CodeBlock) (from : Makings) (place : List ℕ) (low high : 
   asker_view name (joinable result) e = absurd (cc)
 
   -- the machine that asked holds what is left once it has the answer
-  answered_holds : (was now : Left) (bytes : List ℕ) (a : IsAnswered was now bytes) (l : Local) → Holds was l → Holds now (answered a.instr bytes l)
-  answered_holds was now bytes a l h =
+  answered_holds : (n : ℕ) (was now : Left) (bytes : List ℕ) (a : IsAnswered n was now bytes) (l : Local) → Holds was l → Holds now (answered a.instr bytes l)
+  answered_holds n was now bytes a l h =
       let before_is : a.before ≡ l.evidence = sym (ap (λ x. told_or x l.evidence) a.was_held) ∙ h.evidence in
       record {
         code = ap (λ xs. drop 1 xs) (h.code ∙ a.code);
@@ -134,7 +134,7 @@ module _ (all : List CodeBlock) (from : Makings) (place : List ℕ) (low high : 
         stack = h.stack ∙ a.stack;
       }
 
-  answer_shown_by : (n : ℕ) (bytes : List ℕ) (name : Block) (by : ℕ) (for_request : Bool) (was now : Left) (d : Configuration) → t.in_flight n ≡ Some (by, name) → IsAnswered was now bytes → GoesAt name for_request s.configuration d was now n (asks_for name) unseen → AreShown (answer_in n bytes name t (t.blocks name)) (Some (after pass s (answers n bytes) d))
+  answer_shown_by : (n : ℕ) (bytes : List ℕ) (name : Block) (by : ℕ) (for_request : Bool) (was now : Left) (d : Configuration) → t.in_flight n ≡ Some (by, name) → IsAnswered n was now bytes → GoesAt name for_request s.configuration d was now n (asks_for name) unseen → AreShown (answer_in n bytes name t (t.blocks name)) (Some (after pass s (answers n bytes) d))
   answer_shown_by n bytes name by for_request was now d is a g =
       by_state (t.blocks name) (subst (λ v. Stands v (t.blocks name)) g.goes.was (cells.blocks name))
     where
@@ -145,7 +145,7 @@ module _ (all : List CodeBlock) (from : Makings) (place : List ℕ) (low high : 
         answers = ap (λ xs. (n, bytes) ∷ xs) shown.answers;
         requests = shown.requests;
         in_flight = asks_without n by name is;
-        made = made_while s.state d _ still (answers_made name for_request s.configuration d was now t cells n bytes g (answered a.instr bytes l) (answered_holds was now bytes a l h));
+        made = made_while s.state d _ still (answers_made name for_request s.configuration d was now t cells n bytes g (answered a.instr bytes l) (answered_holds n was now bytes a l h));
       }
 
       by_code : (l : Local) (code : List Instr) → Holds was l → code ≡ a.instr ∷ now.code → AreShown (answer_at n bytes name for_request l t code) (Some (after pass s (answers n bytes) d))

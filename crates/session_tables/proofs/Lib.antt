@@ -14,3 +14,4 @@ pub mod Entries
 pub mod Readiness
 pub mod Agenda
 pub mod Freshness
+pub mod LightBlocks

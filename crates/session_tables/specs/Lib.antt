@@ -2,3 +2,4 @@ pub mod Left
 pub mod Found
 pub mod Shown
 pub mod Agenda
+pub mod NextFits

@@ -4,7 +4,9 @@
 #![tactic(auto)]
 
 mod laws;
+mod light;
 #[cfg(test)]
 mod tests;
 
 pub use laws::{agenda_law, entry_law, ready_law, start_law, tables_law};
+pub use light::fits_law;

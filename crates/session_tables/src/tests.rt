@@ -4,6 +4,7 @@ use super::*;
 fn the_laws_of_tables_are_called() {
     agenda_law();
     entry_law();
+    fits_law();
     ready_law();
     start_law();
     tables_law();
