@@ -15,3 +15,5 @@ pub mod Readiness
 pub mod Agenda
 pub mod Freshness
 pub mod LightBlocks
+pub mod OwnCode
+pub mod Touching

@@ -3,3 +3,4 @@ pub mod Found
 pub mod Shown
 pub mod Agenda
 pub mod NextFits
+pub mod Touched

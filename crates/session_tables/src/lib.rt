@@ -7,6 +7,8 @@ mod laws;
 mod light;
 #[cfg(test)]
 mod tests;
+mod touched;
 
 pub use laws::{agenda_law, entry_law, ready_law, start_law, tables_law};
 pub use light::fits_law;
+pub use touched::touched_law;

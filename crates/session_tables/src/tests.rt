@@ -8,4 +8,5 @@ fn the_laws_of_tables_are_called() {
     ready_law();
     start_law();
     tables_law();
+    touched_law();
 }
