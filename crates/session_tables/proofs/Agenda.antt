@@ -4,7 +4,7 @@ use Rattle.std.specs.Prelude.{Bool, true, false, Option, None, Some, nat_eq, nat
 use Rattle.std.proofs.lemmas.Bool.{cases_eq, eq-eqb, eqb-true, ltb-true, ltb-false}
 use Rattle.evidence_types.specs.Evidence.{Evidence}
 use Rattle.session_model.specs.Session.{Session}
-use Rattle.machine_tables.specs.Tables.{Tables}
+use Rattle.machine_tables.specs.Tables.{Tables, next_of}
 use Rattle.session_runs.specs.Standing.{Block, root, of, Entry, is_open, Standing, front}
 use Rattle.session_runs.specs.History.{standing_after}
 use Rattle.session_runs.specs.MoveOrder.{Ready, ready_of, block_rank, rank, ranked, put_silent, put_event, silent_ones, event_ones, moves_by, delivery_at, deliveries, moves_where, possible_moves, asks_ranked, asks_in_order}
@@ -259,10 +259,10 @@ agenda_shown session keys history s t places silent events e still shown agenda 
     owned a b n h k f g =
         some_same a.block b.block (sym (history_owned session keys history s a n e (contains_among Ready (ready_of s.configuration) a h) f) ∙ history_owned session keys history s b n e (contains_among Ready (ready_of s.configuration) b k) g)
 
-    listed : (x : Ready) → IsAmong (ready_of s.configuration) x → IsNext t x
+    listed : (x : Ready) → IsAmong (ready_of s.configuration) x → IsNext (next_of t) x
     listed x h = (ready_shown session keys history s t x e still shown).0 (contains_among Ready (ready_of s.configuration) x h)
 
-    ready : (x : Ready) → IsNext t x → IsAmong (ready_of s.configuration) x
+    ready : (x : Ready) → IsNext (next_of t) x → IsAmong (ready_of s.configuration) x
     ready x h = among_contains Ready (ready_of s.configuration) x ((ready_shown session keys history s t x e still shown).1 h)
 
     to_silent : (x : Ready) → IsAmong silent x → IsAmong (silent_ones (ready_of s.configuration)) x
