@@ -110,7 +110,7 @@ only_here : (i : ℕ) (b : Block) → only_at i b i ≡ Some b
 only_here i b = ap (λ t. if t then Some b else None) (eq-eqb i i refl)
 
 -- owners that agree with those of a phrase on its range own its events
-owner_owns : (phrase : Term) (b : Block) (i : ℕ) (F : ℕ → Option Block) → ((n : ℕ) → i ≤ n → n < i + event_count phrase → F n ≡ owner phrase b i n) → OwnsPhrase F b phrase i
+pub owner_owns : (phrase : Term) (b : Block) (i : ℕ) (F : ℕ → Option Block) → ((n : ℕ) → i ≤ n → n < i + event_count phrase → F n ≡ owner phrase b i n) → OwnsPhrase F b phrase i
 owner_owns (leaf form) b i F agree = agree i (omega arith) (omega arith) ∙ only_here i b
 owner_owns (at place body) b i F agree =
     let last = i + 1 + event_count body in (

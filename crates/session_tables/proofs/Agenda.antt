@@ -4,7 +4,7 @@ use Rattle.std.specs.Prelude.{Bool, true, false, Option, None, Some, nat_eq, if�
 use Rattle.std.proofs.lemmas.Bool.{eq-eqb, eqb-true}
 use Rattle.evidence_types.specs.Evidence.{Evidence}
 use Rattle.session_model.specs.Session.{Session}
-use Rattle.machine_tables.specs.Tables.{Tables}
+use Rattle.machine_tables.specs.Tables.{Tables, next_of}
 use Rattle.session_runs.specs.Standing.{Block, Entry, is_open, Standing, front}
 use Rattle.session_runs.specs.History.{standing_after}
 use Rattle.session_runs.specs.MoveOrder.{Ready, ready_of, silent_ones, event_ones, moves_by, delivery_at, deliveries, moves_where, possible_moves, asks_in_order}
@@ -37,10 +37,10 @@ agenda_shown session keys history s t places silent events e still shown agenda 
     one : IsOneInEach (ready_of s.configuration)
     one = one_in_each session keys history s e
 
-    listed : (x : Ready) → IsAmong (ready_of s.configuration) x → IsNext t x
+    listed : (x : Ready) → IsAmong (ready_of s.configuration) x → IsNext (next_of t) x
     listed x h = (ready_shown session keys history s t x e still shown).0 (contains_among Ready (ready_of s.configuration) x h)
 
-    ready : (x : Ready) → IsNext t x → IsAmong (ready_of s.configuration) x
+    ready : (x : Ready) → IsNext (next_of t) x → IsAmong (ready_of s.configuration) x
     ready x h = among_contains Ready (ready_of s.configuration) x ((ready_shown session keys history s t x e still shown).1 h)
 
     to_silent : (x : Ready) → IsAmong silent x → IsAmong (silent_ones (ready_of s.configuration)) x

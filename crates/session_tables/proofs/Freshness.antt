@@ -47,7 +47,7 @@ all_but t u m (request ∷ rest) none f h =
     let k = f request.0 (λ e. omega (arith, none, same_one request.0 m e)) h.0 h.1 in
     (k.0, k.1, all_but t u m rest (omega (arith, none)) f h.2)
 
-put_other : (name : Block) (state : BlockState) (blocks : Block → BlockState) (other : Block) → (name ≡ other → ⊥) → put_block name state blocks other ≡ blocks other
+pub put_other : (name : Block) (state : BlockState) (blocks : Block → BlockState) (other : Block) → (name ≡ other → ⊥) → put_block name state blocks other ≡ blocks other
 put_other name state blocks = put_block_law (λ other x. (name ≡ other → ⊥) → x ≡ blocks other) name state blocks (λ ne. absurd (ne refl)) (λ other ne also. refl)
 
 put_self : (name : Block) (state : BlockState) (blocks : Block → BlockState) → put_block name state blocks name ≡ state
@@ -98,7 +98,7 @@ Agrees effect (posts place n before) = effect ≡ sends place n
 Agrees effect (forks n before) = effect ≡ happens n
 Agrees effect _ = Unit {0}
 
-some_acted : (a b : Effect × Change × Local) → ◌≡◌ {A = Acted} (Some a) (Some b) → a ≡ b
+pub some_acted : (a b : Effect × Change × Local) → ◌≡◌ {A = Acted} (Some a) (Some b) → a ≡ b
 some_acted a b e = cc
 
 acts_agree : (step : Step) (effect : Effect) (change : Change) (l : Local) (a : Effect × Change × Local) → acts step effect change l ≡ Some a → Agrees effect change → Agrees a.0 a.1
@@ -130,7 +130,7 @@ instr_agrees setting t step l (Fork i split) a e = acts_agree step (happens i) (
 instr_agrees setting t step l (JoinPar j i) a e = with_agree (result_of (t.blocks (of i))) (λ v. acts step (happens j) (joins i) (joined v l)) a (λ v h. acts_agree step (happens j) (joins i) (joined v l) a h tt) e
 instr_agrees setting t step l End a e = acts_agree step _ _ _ a e tt
 
-code_agrees : (setting : Setting) (t : Tables) (step : Step) (l : Local) (code : List Instr) (a : Effect × Change × Local) → act_with setting t step l code ≡ Some a → Agrees a.0 a.1
+pub code_agrees : (setting : Setting) (t : Tables) (step : Step) (l : Local) (code : List Instr) (a : Effect × Change × Local) → act_with setting t step l code ≡ Some a → Agrees a.0 a.1
 code_agrees setting t step l [] a e = absurd (cc)
 code_agrees setting t step l (instr ∷ rest) a e = instr_agrees setting t step l instr a e
 
@@ -194,7 +194,7 @@ module _ (all : List CodeBlock) (pass : ℕ) where
   change_trace u (of m) true (ends result) = refl
   change_trace u (of m) false (ends result) = refl
 
-some_tables : (t u : Tables) → ◌≡◌ {A = Option Tables} (Some t) (Some u) → t ≡ u
+pub some_tables : (t u : Tables) → ◌≡◌ {A = Option Tables} (Some t) (Some u) → t ≡ u
 some_tables t u e = cc
 
 -- the tables after a delivery
@@ -270,7 +270,7 @@ module _ (all : List CodeBlock) (from : Makings) (t : Tables) (f : IsFresh t) (d
   enter_fresh (failed pass n fault) e = asked_fresh pass (t.in_flight n) (λ name. stop_tables n (has_failed n fault) t) (λ name h. stop_fresh n (has_failed n fault) h) e
   enter_fresh (starved pass n) e = asked_fresh pass (t.in_flight n) (λ name. stop_tables n (has_starved n) t) (λ name h. stop_fresh n (has_starved n) h) e
 
-while_is : (state : State) (x : Option Tables) (w : Tables) → tables_while state x ≡ Some w → (state ≡ is_open) × (x ≡ Some w)
+pub while_is : (state : State) (x : Option Tables) (w : Tables) → tables_while state x ≡ Some w → (state ≡ is_open) × (x ≡ Some w)
 while_is is_open x w e = (refl, e)
 while_is (is_done value) x w e = absurd (cc)
 while_is (has_failed event fault) x w e = absurd (cc)

@@ -19,3 +19,5 @@ pub mod Freshness
 pub mod LightBlocks
 pub mod TouchBlocks
 pub mod Questions
+pub mod OwnCode
+pub mod Touching

@@ -16,7 +16,8 @@ use Rattle.avm_code.specs.declared.program.Block.{Block as CodeBlock}
 use Rattle.avm_code.specs.Blocks.{place_named}
 use Rattle.avm_compile.specs.Program.{program_of, leaf_instr, code_of}
 use Rattle.machine_tables.specs.Row.{Setting, Local, measured}
-use Rattle.machine_tables.specs.Tables.{BlockState, not_started, running, over, Tables, place_in, result_of}
+use Rattle.machine_tables.specs.Tables.{BlockState, not_started, running, over, Tables, block_name, result_of}
+use Rattle.avm_code.specs.Order.{place_called}
 use Rattle.session_runs.specs.Configuration.{Configuration, todo, asked, posted, remote, first, left_arm, right_arm, both_arms, finished, measurement}
 use Rattle.session_runs.specs.Standing.{Block, root, of, Entry, is_open, Standing, makings}
 use Rattle.session_runs.specs.History.{standing_after}
@@ -140,7 +141,7 @@ module _ (all : List CodeBlock) (from : Makings) (t : Tables) where
   runs_left a b l m e = cc
 
   -- a block that runs this, or has ended
-  block_fits : (n : ℕ) (place : List ℕ) (for_request flag : Bool) (inner : Configuration) (ended : Bool) (left : Left) (low high : ℕ) → place_named all n ≡ place → Fits all place inner low high → StandIn t (of n) inner low high → AllValues FitsBundle from place inner → block_view for_request inner ended ≡ runs flag left → (l : Local) → Holds left l → CodeFits (at_place (place_in all (of n))) t l l.rest
+  block_fits : (n : ℕ) (place : List ℕ) (for_request flag : Bool) (inner : Configuration) (ended : Bool) (left : Left) (low high : ℕ) → place_named all n ≡ place → Fits all place inner low high → StandIn t (of n) inner low high → AllValues FitsBundle from place inner → block_view for_request inner ended ≡ runs flag left → (l : Local) → Holds left l → CodeFits (at_place (place_called all (block_name (of n)))) t l l.rest
   block_fits n place for_request flag inner true left low high placed h stand v e l holds = absurd (ended_runs for_request e)
     where
       ended_runs : (b : Bool) → block_view b inner true ≡ runs flag left → ⊥
@@ -163,7 +164,7 @@ module _ (all : List CodeBlock) (from : Makings) (t : Tables) where
   no_run false x flag left e f = cc
 
   -- a block of a number, wherever it runs
-  pub lower_fits : (n : ℕ) (flag : Bool) (left : Left) (name : Block) (place : List ℕ) (c : Configuration) (low high : ℕ) → Fits all place c low high → StandIn t name c low high → AllValues FitsBundle from place c → found name c n ≡ runs flag left → (l : Local) → Holds left l → CodeFits (at_place (place_in all (of n))) t l l.rest
+  pub lower_fits : (n : ℕ) (flag : Bool) (left : Left) (name : Block) (place : List ℕ) (c : Configuration) (low high : ℕ) → Fits all place c low high → StandIn t name c low high → AllValues FitsBundle from place c → found name c n ≡ runs flag left → (l : Local) → Holds left l → CodeFits (at_place (place_called all (block_name (of n)))) t l l.rest
   lower_fits n flag left name place (todo phrase i before) low high h stand v e l holds = absurd (cc)
   lower_fits n flag left name place (asked form i before) low high h stand v e l holds = absurd (no_run (nat_eq n i) (asks_for name) flag left e asks_runs)
     where
@@ -175,7 +176,7 @@ module _ (all : List CodeBlock) (from : Makings) (t : Tables) where
       waits_runs e = cc
   lower_fits n flag left name place (remote asked_place i last inner ended) low high h stand v e l holds = elim (cases_eq n i) [
     | inl is ↦
-        subst (λ k. CodeFits (at_place (place_in all (of k))) t l l.rest) (sym is)
+        subst (λ k. CodeFits (at_place (place_called all (block_name (of k)))) t l l.rest) (sym is)
         (block_fits i asked_place true flag inner ended left (i + 1) last h.2 h.4 (stand_inner name place asked_place i last inner ended low high h stand) v (sym (if_same View n i (block_view true inner ended) (found (of i) inner n) is) ∙ e) l holds)
     | inr ne ↦ lower_fits n flag left (of i) asked_place inner (i + 1) last h.4 (stand_inner name place asked_place i last inner ended low high h stand) v (sym (if_other View n i (block_view true inner ended) (found (of i) inner n) ne) ∙ e) l holds
   ]
@@ -187,7 +188,7 @@ module _ (all : List CodeBlock) (from : Makings) (t : Tables) where
       lower_fits n flag left name place inner low last h.1 (stand_less t name inner low high last (omega (arith, h.0)) stand) v.1 e l holds
   lower_fits n flag left name place (both_arms i last left_arms right ended) low high h stand v e l holds = elim (cases_eq n i) [
     | inl is ↦
-        subst (λ k. CodeFits (at_place (place_in all (of k))) t l l.rest) (sym is)
+        subst (λ k. CodeFits (at_place (place_called all (block_name (of k)))) t l l.rest) (sym is)
         (block_fits i place false flag right ended left h.4.0 last h.2 h.4.4 (stand_right name place i last left_arms right ended low high h stand) v.1 (sym (if_same View n i (block_view false right ended) (seen_or (found name left_arms n) (found (of i) right n)) is) ∙ e) l holds)
     | inr ne ↦ elim (either_seen (found name left_arms n) (found (of i) right n) (runs flag left) (sym (if_other View n i (block_view false right ended) (seen_or (found name left_arms n) (found (of i) right n)) ne) ∙ e)) [
       | inl there ↦ lower_fits n flag left name place left_arms (i + 1) h.4.0 h.4.3 (stand_left name place i last left_arms right ended low high h stand) v.0 there l holds
@@ -209,7 +210,7 @@ code_fits : (setting : Setting) (t : Tables) (l : Local) (code : List Instr) (in
 code_fits setting t l code instr rest e h = subst (λ xs. CodeFits setting t l xs) e h
 
 module _ (session : Session) (keys : List (List ℕ × List ℕ)) (s : Standing) (t : Tables) (fits : SessionFits session s) (cells : IsMadeOf s.configuration t) (values : AllValues FitsBundle (makings session keys) session.root s.configuration) where
-  block_next : (name : Block) (flag : Bool) (l : Local) → t.blocks name ≡ running flag l → CodeFits (record { place = place_in (program_of session.phrase session.root) name; from = makings session keys }) t l l.rest
+  block_next : (name : Block) (flag : Bool) (l : Local) → t.blocks name ≡ running flag l → CodeFits (record { place = place_called (program_of session.phrase session.root) (block_name name); from = makings session keys }) t l l.rest
   block_next root flag l is =
       let w = stands_runs (runs false (left_of s.configuration)) flag l (subst (λ x. Stands (runs false (left_of s.configuration)) x) is (cells.blocks root)) in
       let holds : Holds (left_of s.configuration) l = subst (λ x. Holds x l) (same_left w.0 w.1 w.2) w.3 in
@@ -222,9 +223,9 @@ module _ (session : Session) (keys : List (List ℕ × List ℕ)) (s : Standing)
       lower_fits (program_of session.phrase session.root) (makings session keys) t n w.0 w.1 root session.root s.configuration 0 (event_count session.phrase) fits (λ k least below. cells.blocks (of k)) values w.2 l w.3
 
 -- what the next instruction of a block makes
-pub next_fits : (session : Session) (keys : List (List ℕ × List ℕ)) (history : List Entry) (s : Standing) (t : Tables) (name : Block) (flag : Bool) (l : Local) (instr : Instr) (rest : List Instr) → IsLight session.phrase → length session.nonce ≡ 16 → AreShort history → standing_after session keys history ≡ Some s → s.state ≡ is_open → IsShown t s → t.blocks name ≡ running flag l → l.rest ≡ instr ∷ rest → NextFits (record { place = place_in (program_of session.phrase session.root) name; from = makings session keys }) t instr l
+pub next_fits : (session : Session) (keys : List (List ℕ × List ℕ)) (history : List Entry) (s : Standing) (t : Tables) (name : Block) (flag : Bool) (l : Local) (instr : Instr) (rest : List Instr) → IsLight session.phrase → length session.nonce ≡ 16 → AreShort history → standing_after session keys history ≡ Some s → s.state ≡ is_open → IsShown t s → t.blocks name ≡ running flag l → l.rest ≡ instr ∷ rest → NextFits (record { place = place_called (program_of session.phrase session.root) (block_name name); from = makings session keys }) t instr l
 next_fits session keys history s t name flag l instr rest light sixteen short e still shown runs_so code =
-    code_fits (record { place = place_in (program_of session.phrase session.root) name; from = makings session keys }) t l l.rest instr rest code
+    code_fits (record { place = place_called (program_of session.phrase session.root) (block_name name); from = makings session keys }) t l l.rest instr rest code
     (block_next session keys s t (fits_after_history session keys history s e) (made_still s.state s.configuration t still shown.made) (history_light session keys history s light sixteen short e) name flag l runs_so)
 
 -- a block that waits for an answer

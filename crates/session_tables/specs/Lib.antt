@@ -5,3 +5,4 @@ pub mod Agenda
 pub mod NextFits
 pub mod TouchedAt
 pub mod Questions
+pub mod Touched

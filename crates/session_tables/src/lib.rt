@@ -7,8 +7,10 @@ mod laws;
 mod light;
 #[cfg(test)]
 mod tests;
+mod touched;
 mod touches;
 
 pub use laws::{agenda_law, entry_law, question_law, ready_law, start_law, tables_law};
 pub use light::fits_law;
+pub use touched::touched_law;
 pub use touches::touches_law;

@@ -5,7 +5,8 @@ ghost use Rattle.evidence_types.specs.Measure.{IsLight};
 ghost use Rattle.avm_code.specs.declared.instr.Instr.{Instr};
 ghost use Rattle.avm_compile.specs.Program.{program_of};
 ghost use Rattle.machine_tables.specs.Row.{Local, measured};
-ghost use Rattle.machine_tables.specs.Tables.{running, Tables, place_in};
+ghost use Rattle.machine_tables.specs.Tables.{running, Tables, block_name};
+ghost use Rattle.avm_code.specs.Order.{place_called};
 ghost use Rattle.session_model.specs.Session.{Session};
 ghost use Rattle.session_runs.specs.Standing.{Block, Entry, is_open, Standing, makings};
 ghost use Rattle.session_runs.specs.History.{standing_after};
@@ -28,7 +29,7 @@ pub fn fits_law()
         tables.blocks name ≡ running for_request local →
         local.rest ≡ instr ∷ rest →
         NextFits
-        (record { place = place_in (program_of session.phrase session.root) name; from = makings session keys })
+        (record { place = place_called (program_of session.phrase session.root) (block_name name); from = makings session keys })
         tables
         instr
         local }

@@ -10,4 +10,5 @@ fn the_laws_of_tables_are_called() {
     start_law();
     tables_law();
     touches_law();
+    touched_law();
 }
