@@ -84,12 +84,15 @@ fn bundles_are_read_and_written_again(rt: HostRuntime) -> Result<(), Fail> {
     for bundle in bundles {
         assert!(rt; again(rt.alloc(), bundle));
     }
-    let Ok(Value::Usm(event, answer, under)) = decode(rt.alloc(), &MEASURED) else {
+    let Ok(value) = decode(rt.alloc(), &MEASURED) else {
+        return Err(Fail::from("a value"));
+    };
+    let Value::Usm(event, answer, under) = &value else {
         return Err(Fail::from("a measurement"));
     };
-    assert_eq!(rt; event, 0);
+    assert_eq!(rt; *event, 0);
     assert_eq!(rt; answer.bytes(), [0xaa, 0xbb].as_slice());
-    assert!(rt; matches!(*under, Value::Nonce(_)));
+    assert!(rt; matches!(&**under, Value::Nonce(_)));
     Ok(())
 }
 
