@@ -9,6 +9,8 @@
 mod agenda;
 mod laws;
 mod moves;
+#[cfg(test)]
+mod tests;
 
 pub use agenda::Agenda;
 pub use laws::listed_law;
