@@ -1,0 +1,17 @@
+//! What the blocks of a session can do next, kept up to date: the agenda of its possible moves, as three
+//! rising lists in the order in which they are listed. A move changes what few blocks can do next, and
+//! each change takes time in the logarithm of what is kept, beside one shift of the entries behind it.
+//!
+//! Clauses see an agenda as what it keeps of each block (`next_by` of `specs/Kept.antt`), of each place
+//! (`waits_by`), and as its moves in order (`listed`). It knows no store, machine or session.
+#![tactic(auto)]
+
+mod agenda;
+mod laws;
+mod moves;
+#[cfg(test)]
+mod tests;
+
+pub use agenda::Agenda;
+pub use laws::listed_law;
+pub use moves::{Move, Mover, Task};
