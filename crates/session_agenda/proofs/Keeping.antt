@@ -1,5 +1,5 @@
 -- What an agenda keeps when a block or a place is marked or unmarked, and its moves by index.
-use Rattle.std.proofs.Common.{◌≡◌, ℕ, ◌+◌, ◌-◌, ◌≤◌, ◌<◌, ◌⊎◌, zero, suc, inl, inr, List, [], ◌∷◌, ◌++◌, length, length-append, refl, sym, ◌∙◌, ap, subst, arith}
+use Rattle.std.proofs.Common.{◌≡◌, ℕ, ◌+◌, ◌-◌, ◌≤◌, ◌<◌, zero, suc, inl, inr, List, [], ◌∷◌, ◌++◌, length, length-append, refl, sym, ◌∙◌, ap, subst, arith}
 use Rattle.std.specs.Prelude.{Bool, true, false, Option, None, Some, nat_eq, slice_get, if◌then◌else◌}
 use Rattle.std.proofs.lemmas.Bool.{cases_eq, eq-eqb, ne_eqb}
 use Rattle.rising_list.specs.Rising.{Rising, find, RisesFrom, inserted, removed}
@@ -16,8 +16,8 @@ use Rattle.session_agenda.specs.declared.moves.Move.{Move}
 use Rattle.session_agenda.specs.declared.moves.Move.TheVariants.{Deliver}
 use Rattle.session_agenda.specs.declared.moves.Mover.{Mover}
 use Rattle.session_agenda.specs.declared.agenda.Agenda.{Agenda}
-use Rattle.session_agenda.specs.Kept.{rank_by, event_in, step_in, next_of_task, next_by, is_there, mover_with, move_of, move_at, deliveries_in, moves_in, rank_unless, silent_key, event_key, Indexes, IsKept, IsFree}
-use Rattle.session_agenda.proofs.Indexed.{if_same, if_other, none_some, none_unless, put_indexed, put_unkeyed, take_indexed, take_unkeyed}
+use Rattle.session_agenda.specs.Kept.{rank_by, event_in, step_in, next_of_task, next_by, is_there, mover_with, move_at, deliveries_in, moves_in, rank_unless, silent_key, event_key, Indexes, IsKept, IsFree}
+use Rattle.session_agenda.proofs.Indexed.{none_some, none_unless, put_indexed, put_unkeyed, take_indexed, take_unkeyed}
 
 -- ---- what a block can do next, by its rank
 

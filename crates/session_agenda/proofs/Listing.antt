@@ -1,17 +1,17 @@
 -- The lists of an agenda are what its blocks can do next, in order.
-use Rattle.std.proofs.Common.{◌≡◌, ℕ, ◌+◌, ◌≤◌, ◌<◌, ◌⊎◌, suc, inl, inr, List, [], ◌∷◌, refl, sym, ◌∙◌, ap, subst, arith}
-use Rattle.std.specs.Prelude.{Bool, true, false, Option, None, Some, Contains, nat_eq, ◌↔◌, if◌then◌else◌}
+use Rattle.std.proofs.Common.{◌≡◌, ℕ, ◌≤◌, ◌<◌, suc, inl, inr, List, [], ◌∷◌, refl, sym, ◌∙◌, ap, subst, arith}
+use Rattle.std.specs.Prelude.{Option, None, Some, Contains, ◌↔◌}
 use Rattle.std.proofs.lemmas.Bool.{cases_eq}
 use Rattle.rising_list.specs.Rising.{find, RisesFrom}
 use Rattle.avm_code.specs.declared.instr.BlockName.{BlockName}
-use Rattle.avm_code.specs.declared.instr.BlockName.TheVariants.{Root, Of}
 use Rattle.machine_tables.specs.Tables.{Next, block_name}
 use Rattle.session_runs.specs.Moves.{Step}
 use Rattle.session_runs.specs.MoveOrder.{Ready, block_rank, rank}
 use Rattle.session_runs.specs.Standing.{Block, root, of}
+use Rattle.session_runs.specs.Ordered.{AreAbove, Rise, rank_of, IsSilent, IsOfEvent}
 use Rattle.session_runs.proofs.ListingLaws.{IsAmong, contains_among, among_contains}
 use Rattle.session_tables.specs.Touched.{named}
-use Rattle.session_tables.specs.Agenda.{AreAbove, Rise, rank_of, IsNext, IsSilent, IsOfEvent, Lists}
+use Rattle.session_tables.specs.Agenda.{IsNext, Lists}
 use Rattle.session_agenda.specs.declared.moves.Task.{Task}
 use Rattle.session_agenda.specs.declared.moves.Mover.{Mover}
 use Rattle.session_agenda.specs.declared.agenda.Agenda.{Agenda}

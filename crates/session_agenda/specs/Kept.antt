@@ -6,9 +6,8 @@ use Rattle.avm_code.specs.declared.instr.BlockName.{BlockName}
 use Rattle.avm_code.specs.declared.instr.BlockName.TheVariants.{Root, Of}
 use Rattle.machine_tables.specs.Tables.{Next}
 use Rattle.session_runs.specs.Moves.{Step, run, ask}
-use Rattle.session_runs.specs.MoveOrder.{Ready, block_rank}
+use Rattle.session_runs.specs.MoveOrder.{block_rank}
 use Rattle.session_runs.specs.Standing.{Block}
-use Rattle.session_tables.specs.Touched.{named}
 use Rattle.session_agenda.specs.declared.moves.Task.{Task}
 use Rattle.session_agenda.specs.declared.moves.Task.TheVariants.{Runs, Asks}
 use Rattle.session_agenda.specs.declared.moves.Move.{Move}

@@ -1,9 +1,9 @@
-ghost use Rattle.std.specs.Prelude.{◌≡◌, ◌+◌, ◌<◌, ◌^◌, ℕ, Bool, true, false, None, Some, IfOk, IsTrue, length, nat_eq, slice_get, if◌then◌else◌};
+ghost use Rattle.std.specs.Prelude.{◌≡◌, ◌+◌, ◌<◌, ◌^◌, ℕ, true, false, None, Some, IfOk, IsTrue, length, nat_eq, slice_get, if◌then◌else◌};
 ghost use Rattle.rising_list.specs.Rising.{find};
 ghost use Rattle.machine_tables.specs.Tables.{same_name};
 ghost use Rattle.session_runs.specs.Standing.{Block};
 ghost use Rattle.session_tables.specs.Touched.{named};
-ghost use Rattle.session_agenda.specs.Kept.{rank_by, event_in, task_by, next_of_task, next_by, waits_by, listed, deliveries_in, move_at, IsKept, HasRoomFor, IsFree, SameBounds};
+ghost use Rattle.session_agenda.specs.Kept.{rank_by, task_by, next_of_task, next_by, waits_by, listed, deliveries_in, move_at, IsKept, HasRoomFor, IsFree, SameBounds};
 
 use crate::moves::{Move, Mover, Task, event_of, move_by, rank_of};
 use avm_code::BlockName;

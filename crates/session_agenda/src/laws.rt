@@ -1,5 +1,4 @@
 //! What the lists of an agenda are to the tables of a session.
-ghost use Rattle.std.specs.Prelude.{◌≡◌};
 ghost use Rattle.session_agenda.specs.declared.agenda.Agenda.{Agenda};
 ghost use Rattle.session_agenda.specs.Kept.{next_by, IsKept};
 ghost use Rattle.session_agenda.specs.Listed.{silent_of, events_of};

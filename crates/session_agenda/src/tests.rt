@@ -1,4 +1,3 @@
-ghost use Rattle.std.specs.Prelude.{◌≡◌};
 ghost use Rattle.session_agenda.specs.Kept.{IsKept, HasRoomFor, SameBounds};
 
 use super::*;

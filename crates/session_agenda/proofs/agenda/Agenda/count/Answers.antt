@@ -1,4 +1,4 @@
-use Rattle.std.proofs.Common.{◌≡◌, arith}
+use Rattle.std.proofs.Common.{arith}
 use Rattle.session_agenda.proofs.Keeping.{listed_length}
 use Rattle.session_agenda.proofs.agenda.Agenda.count.Goals as goal
 

@@ -1,4 +1,4 @@
-use Rattle.std.proofs.Common.{◌≡◌, sym, ◌∙◌, ap}
+use Rattle.std.proofs.Common.{sym, ◌∙◌, ap}
 use Rattle.session_agenda.proofs.Keeping.{delivery_of, nth_delivery}
 use Rattle.session_agenda.proofs.agenda.Agenda.delivery.Goals as goal
 

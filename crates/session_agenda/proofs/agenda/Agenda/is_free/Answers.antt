@@ -1,4 +1,4 @@
-use Rattle.std.proofs.Common.{◌≡◌, sym, ◌∙◌}
+use Rattle.std.proofs.Common.{sym, ◌∙◌}
 use Rattle.session_agenda.proofs.Keeping.{free_by, free_silent}
 use Rattle.session_agenda.proofs.agenda.Agenda.is_free.Goals as goal
 

@@ -1,4 +1,4 @@
-use Rattle.std.proofs.Common.{◌≡◌, sym, ◌∙◌, ap, arith}
+use Rattle.std.proofs.Common.{sym, ◌∙◌, ap, arith}
 use Rattle.rising_list.specs.Rising.{find}
 use Rattle.session_agenda.proofs.Keeping.{idle_find, put_next, silent_free, events_free, silent_marked, event_marked}
 use Rattle.session_agenda.proofs.agenda.Agenda.mark.Goals as goal

@@ -1,4 +1,4 @@
-use Rattle.std.proofs.Common.{◌≡◌, sym, ◌∙◌}
+use Rattle.std.proofs.Common.{sym, ◌∙◌}
 use Rattle.session_agenda.proofs.Keeping.{place_put, place_put_rises, places_kept}
 use Rattle.session_agenda.proofs.agenda.Agenda.mark_place.Goals as goal
 

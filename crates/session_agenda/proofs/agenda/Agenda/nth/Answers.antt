@@ -1,4 +1,4 @@
-use Rattle.std.proofs.Common.{◌≡◌, ◌<◌, ◌≤◌, ◌-◌, sym, ◌∙◌, ap, arith, length}
+use Rattle.std.proofs.Common.{◌-◌, sym, ◌∙◌, ap, arith, length}
 use Rattle.std.specs.Prelude.{slice_get}
 use Rattle.session_agenda.specs.Kept.{move_at}
 use Rattle.session_agenda.proofs.Keeping.{in_places, in_silent, in_events}

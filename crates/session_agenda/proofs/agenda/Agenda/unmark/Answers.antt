@@ -1,4 +1,4 @@
-use Rattle.std.proofs.Common.{◌≡◌, sym, ◌∙◌}
+use Rattle.std.proofs.Common.{sym, ◌∙◌}
 use Rattle.session_agenda.proofs.Keeping.{take_next, silent_unmarked, event_unmarked, none_unmarked}
 use Rattle.session_agenda.proofs.agenda.Agenda.unmark.Goals as goal
 
