@@ -23,6 +23,7 @@ import common
 LIMIT = 1024
 EVENTS = 2048
 BRACKETS = 64
+SEALS = 1024
 COMMANDS = ["check", "shape", "events", "code", "eval", "walk 0"]
 KEY = "000102030405060708090a0b0c0d0e0f"
 
@@ -55,12 +56,16 @@ def least(command, job=os.devnull):
     return high
 
 
+def chain(events):
+    """A chain of so many events: seals, and copies once there are as many seals as evidence may nest."""
+    return " -> ".join(["SIG"] * SEALS + ["CPY"] * (events - SEALS))
+
+
 def jobs(folder):
-    """Jobs of one session whose phrases have the most events."""
-    seals = EVENTS - 2 * BRACKETS
+    """Jobs of one session whose phrases have the most events, with as many seals as evidence may nest."""
     phrases = {
-        "longest": " -> ".join(["SIG"] * EVENTS),
-        "deepest": "@bank [" * BRACKETS + " -> ".join(["SIG"] * seals) + "]" * BRACKETS,
+        "longest": chain(EVENTS),
+        "deepest": "@bank [" * BRACKETS + chain(EVENTS - 2 * BRACKETS) + "]" * BRACKETS,
     }
     place = {"name": "bank", "key": KEY, "asks": ["bank"]}
     for name, phrase in phrases.items():
