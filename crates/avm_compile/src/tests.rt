@@ -86,7 +86,7 @@ fn listings_are_those_of_worked_phrases(rt: HostRuntime) -> Result<(), Fail> {
         left: false,
         right: true,
     };
-    let scanned = then(alloc, Phrase::Usm(asp(&rt, "scan")), Phrase::Sig)?;
+    let scanned = then(alloc, Phrase::usm(alloc, asp(&rt, "scan"))?, Phrase::Sig)?;
     let asked = request(alloc, name(&rt, "q"), scanned)?;
     expect_code(
         &rt,
@@ -98,8 +98,8 @@ fn listings_are_those_of_worked_phrases(rt: HostRuntime) -> Result<(), Fail> {
     let arms = in_parallel(
         alloc,
         to_left,
-        Phrase::Usm(asp(&rt, "a")),
-        Phrase::Usm(asp(&rt, "b")),
+        Phrase::usm(alloc, asp(&rt, "a"))?,
+        Phrase::usm(alloc, asp(&rt, "b"))?,
     )?;
     expect_code(
         &rt,
@@ -111,8 +111,8 @@ fn listings_are_those_of_worked_phrases(rt: HostRuntime) -> Result<(), Fail> {
     let steps = in_sequence(
         alloc,
         to_right,
-        Phrase::Usm(asp(&rt, "a")),
-        Phrase::Usm(asp(&rt, "b")),
+        Phrase::usm(alloc, asp(&rt, "a"))?,
+        Phrase::usm(alloc, asp(&rt, "b"))?,
     )?;
     expect_code(
         &rt,
@@ -123,11 +123,15 @@ fn listings_are_those_of_worked_phrases(rt: HostRuntime) -> Result<(), Fail> {
     )?;
     let kernel = then(
         alloc,
-        Phrase::Kim(name(&rt, "us"), asp(&rt, "kernel")),
+        Phrase::kim(alloc, name(&rt, "us"), asp(&rt, "kernel"))?,
         Phrase::Sig,
     )?;
     let files = asp_of(&rt, "files", Arg::Word(name(&rt, "etc")));
-    let measured = then(alloc, Phrase::Usm(asp(&rt, "scanner")), Phrase::Usm(files))?;
+    let measured = then(
+        alloc,
+        Phrase::usm(alloc, asp(&rt, "scanner"))?,
+        Phrase::usm(alloc, files)?,
+    )?;
     let user = then(alloc, measured, Phrase::Sig)?;
     let kernel_there = request(alloc, name(&rt, "ks"), kernel)?;
     let user_there = request(alloc, name(&rt, "us"), user)?;

@@ -254,7 +254,7 @@ fn in_sequence(rt: &impl Abort, alloc: Global) -> Result<Phrase, NoMemory>
         right: false,
     };
     let sealed = Phrase::Then(
-        Box::new(alloc, Phrase::Usm(asp(rt, "a")))?,
+        Box::new(alloc, Phrase::usm(alloc, asp(rt, "a"))?)?,
         Box::new(alloc, Phrase::Sig)?,
     );
     Ok(Phrase::Seq(
@@ -277,7 +277,7 @@ fn in_parallel(rt: &impl Abort, alloc: Global) -> Result<Phrase, NoMemory>
     Ok(Phrase::Par(
         split,
         Box::new(alloc, Phrase::Hsh)?,
-        Box::new(alloc, Phrase::Usm(asp(rt, "b")))?,
+        Box::new(alloc, Phrase::usm(alloc, asp(rt, "b"))?)?,
     ))
 }
 
@@ -288,7 +288,7 @@ fn at_another(rt: &impl Abort, alloc: Global) -> Result<Phrase, NoMemory>
 {
     phrases_have_blocks();
     let sealed = Phrase::Then(
-        Box::new(alloc, Phrase::Kim(name(rt, "us"), asp(rt, "a")))?,
+        Box::new(alloc, Phrase::kim(alloc, name(rt, "us"), asp(rt, "a"))?)?,
         Box::new(alloc, Phrase::Sig)?,
     );
     Ok(Phrase::At(name(rt, "q"), Box::new(alloc, sealed)?))

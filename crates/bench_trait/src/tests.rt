@@ -66,17 +66,18 @@ fn added(book: &mut ArtefactBook, place: Name, name: Name, bytes: Bytes) -> Resu
 }
 
 #[test]
-fn only_measurements_have_questions(rt: HostRuntime) {
+fn only_measurements_have_questions(rt: HostRuntime) -> Result<(), Fail> {
     let bank = name(&rt, "bank");
-    let usm = Phrase::Usm(files_etc_7(&rt));
+    let usm = Phrase::usm(rt.alloc(), files_etc_7(&rt))?;
     let asked = ask_of(&usm, bank, &NONCE, 0);
     assert!(rt; asked == Some(ask(&rt, 0, "bank", AskKind::Usm, files_etc_7(&rt))));
     assert!(rt; ask_of(&usm, bank, &NONCE, 1).is_none());
     let target = name(&rt, "q");
-    let kim = Phrase::Kim(target, plain(&rt, "kernel"));
+    let kim = Phrase::kim(rt.alloc(), target, plain(&rt, "kernel"))?;
     let asked = ask_of(&kim, bank, &NONCE, 0);
     assert!(rt; asked == Some(ask(&rt, 0, "bank", AskKind::Kim(target), plain(&rt, "kernel"))));
     assert!(rt; ask_of(&Phrase::Sig, bank, &NONCE, 0).is_none());
+    Ok(())
 }
 
 #[test]

@@ -3,8 +3,8 @@ ghost use Rattle.phrase_tree.specs.Term.{term};
 ghost use Rattle.phrase_tree.specs.Numbering.{IsSized};
 
 use super::*;
-use phrase_tree::{Args, Asp, BRACKETS, EVENTS, Name, Phrase, Place, Split};
-use std::alloc::{AllocError, Global};
+use phrase_tree::{Args, Asp, BRACKETS, EVENTS, Name, NoMemory, Phrase, Place, Split};
+use std::alloc::Global;
 use std::process::Abort;
 use std::test::Fail;
 
@@ -21,17 +21,17 @@ fn asp(name: Name) -> Asp {
 }
 
 // @q [USM scan -> SIG]
-fn remote(alloc: Global, q: Place, scan: Name) -> Result<Phrase, AllocError>
+fn remote(alloc: Global, q: Place, scan: Name) -> Result<Phrase, NoMemory>
     ensures { IfOk result (λ phrase. IsSized (term phrase)) }
 {
-    let left = Box::new(alloc, Phrase::Usm(asp(scan)))?;
+    let left = Box::new(alloc, Phrase::usm(alloc, asp(scan))?)?;
     let right = Box::new(alloc, Phrase::Sig)?;
     let body = Box::new(alloc, Phrase::Then(left, right))?;
     Ok(Phrase::At(q, body))
 }
 
 // @q [@bank [@q [CPY]]]
-fn to_and_fro(alloc: Global, q: Place, bank: Place) -> Result<Phrase, AllocError>
+fn to_and_fro(alloc: Global, q: Place, bank: Place) -> Result<Phrase, NoMemory>
     ensures { IfOk result (λ phrase. IsSized (term phrase)) }
 {
     let leaf = Box::new(alloc, Phrase::Cpy)?;
@@ -41,11 +41,11 @@ fn to_and_fro(alloc: Global, q: Place, bank: Place) -> Result<Phrase, AllocError
 }
 
 // USM a +~- USM b
-fn fork(alloc: Global, a: Name, b: Name) -> Result<Phrase, AllocError>
+fn fork(alloc: Global, a: Name, b: Name) -> Result<Phrase, NoMemory>
     ensures { IfOk result (λ phrase. IsSized (term phrase)) }
 {
-    let left = Box::new(alloc, Phrase::Usm(asp(a)))?;
-    let right = Box::new(alloc, Phrase::Usm(asp(b)))?;
+    let left = Box::new(alloc, Phrase::usm(alloc, asp(a))?)?;
+    let right = Box::new(alloc, Phrase::usm(alloc, asp(b))?)?;
     let split = Split {
         left: true,
         right: false,
@@ -54,15 +54,15 @@ fn fork(alloc: Global, a: Name, b: Name) -> Result<Phrase, AllocError>
 }
 
 // @ks [KIM us ks -> SIG] +~+ @us [USM us -> USM ks -> SIG], or the same with +<+
-fn two_places(alloc: Global, ks: Place, us: Place, parallel: bool) -> Result<Phrase, AllocError>
+fn two_places(alloc: Global, ks: Place, us: Place, parallel: bool) -> Result<Phrase, NoMemory>
     ensures { IfOk result (λ phrase. IsSized (term phrase)) }
 {
-    let first = Box::new(alloc, Phrase::Kim(us, asp(ks)))?;
+    let first = Box::new(alloc, Phrase::kim(alloc, us, asp(ks))?)?;
     let second = Box::new(alloc, Phrase::Sig)?;
     let body = Box::new(alloc, Phrase::Then(first, second))?;
     let left = Box::new(alloc, Phrase::At(ks, body))?;
-    let first = Box::new(alloc, Phrase::Usm(asp(us)))?;
-    let second = Box::new(alloc, Phrase::Usm(asp(ks)))?;
+    let first = Box::new(alloc, Phrase::usm(alloc, asp(us))?)?;
+    let second = Box::new(alloc, Phrase::usm(alloc, asp(ks))?)?;
     let both = Box::new(alloc, Phrase::Then(first, second))?;
     let third = Box::new(alloc, Phrase::Sig)?;
     let body = Box::new(alloc, Phrase::Then(both, third))?;
@@ -247,7 +247,7 @@ fn a_request_comes_first_in_its_system(rt: HostRuntime) -> Result<(), Fail> {
 }
 
 // `CPY -> SIG -> SIG ..` with so many seals, in so many requests.
-fn enclosed(alloc: Global, place: Place, seals: u32, requests: u32) -> Result<Phrase, AllocError>
+fn enclosed(alloc: Global, place: Place, seals: u32, requests: u32) -> Result<Phrase, NoMemory>
     requires few { 1 + seals + 2 * requests ≤ EVENTS }
     requires nested { requests ≤ BRACKETS }
     ensures { IfOk result (λ phrase. IsSized (term phrase)) }

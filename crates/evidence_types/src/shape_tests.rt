@@ -70,12 +70,12 @@ fn shapes_and_weights_are_those_of_worked_phrases(rt: HostRuntime) -> Result<(),
         left: false,
         right: true,
     };
-    let sealed = then(alloc, Phrase::Usm(asp(&rt, "scan")), Phrase::Sig)?;
+    let sealed = then(alloc, Phrase::usm(alloc, asp(&rt, "scan"))?, Phrase::Sig)?;
     expect_shape(&rt, alloc, &sealed, b"G(bank,1,U(bank,0,scan,N))", 1085)?;
     let arms = Phrase::Par(
         to_left,
-        Box::new(alloc, Phrase::Usm(asp(&rt, "a")))?,
-        Box::new(alloc, Phrase::Usm(asp(&rt, "b")))?,
+        Box::new(alloc, Phrase::usm(alloc, asp(&rt, "a"))?)?,
+        Box::new(alloc, Phrase::usm(alloc, asp(&rt, "b"))?)?,
     );
     expect_shape(&rt, alloc, &arms, b"P(U(bank,1,a,N),U(bank,2,b,E))", 2081)?;
     let late = both_ways(alloc, to_right, Phrase::Cpy, Phrase::Cpy)?;
@@ -83,7 +83,7 @@ fn shapes_and_weights_are_those_of_worked_phrases(rt: HostRuntime) -> Result<(),
     let pair = both_ways(alloc, all, Phrase::Cpy, Phrase::Cpy)?;
     let hashed = then(alloc, pair, Phrase::Hsh)?;
     expect_shape(&rt, alloc, &hashed, b"H(bank,4,S(N,N))", 72)?;
-    let emptied = then(alloc, Phrase::Usm(asp(&rt, "scan")), Phrase::Nul)?;
+    let emptied = then(alloc, Phrase::usm(alloc, asp(&rt, "scan"))?, Phrase::Nul)?;
     expect_shape(&rt, alloc, &emptied, b"E", 1048)?;
     let mut files = asp(&rt, "files");
     assert!(rt; files.args.push(Arg::Word(name(&rt, "etc"))).is_ok());
@@ -94,8 +94,8 @@ fn shapes_and_weights_are_those_of_worked_phrases(rt: HostRuntime) -> Result<(),
             alloc,
             then(
                 alloc,
-                Phrase::Kim(name(&rt, "ks"), asp(&rt, "kernel")),
-                Phrase::Usm(files),
+                Phrase::kim(alloc, name(&rt, "ks"), asp(&rt, "kernel"))?,
+                Phrase::usm(alloc, files)?,
             )?,
         )?,
     );
@@ -125,7 +125,7 @@ fn one_more(rt: &impl Abort, alloc: Global, part: Part) -> Result<Phrase, NoMemo
     ensures no_chain { IfOk result (λ phrase. is_chain (term phrase) ≡ false) }
 {
     match part {
-        Part::Measured => Ok(Phrase::Usm(asp(rt, "a"))),
+        Part::Measured => Phrase::usm(alloc, asp(rt, "a")),
         Part::Sealed => Ok(Phrase::Sig),
         Part::Emptied => Ok(Phrase::Nul),
         Part::Branched => both_ways(
@@ -171,6 +171,16 @@ fn followed(
     Ok(phrase)
 }
 
+/// `USM a`, and then the same so many times.
+fn measured_again(rt: &impl Abort, alloc: Global, times: u32) -> Result<Phrase, NoMemory>
+    ensures no_branch { IfOk result (λ phrase. is_branch (term phrase) ≡ false) }
+    ensures flat { IfOk result (λ phrase. depth (term phrase) ≤ 1) }
+    ensures few { IfOk result (λ phrase. event_count (term phrase) ≤ 1 + 4 * times) }
+{
+    let first = Phrase::usm(alloc, asp(rt, "a"))?;
+    followed(rt, alloc, first, Part::Measured, times)
+}
+
 // 233 measurements with seals and branches behind them; the sums were done by another program.
 #[test]
 fn the_weight_of_long_chains_ends_at_its_limit(rt: HostRuntime) -> Result<(), Fail> {
@@ -181,8 +191,7 @@ fn the_weight_of_long_chains_ends_at_its_limit(rt: HostRuntime) -> Result<(), Fa
         (254, 0, 0, 261891, None),
         (255, 0, 0, 262145, Some(254)),
     ] {
-        let first = Phrase::Usm(asp(&rt, "a"));
-        let many = followed(&rt, alloc, first, Part::Measured, measured - 1)?;
+        let many = measured_again(&rt, alloc, measured - 1)?;
         let under_seals = followed(&rt, alloc, many, Part::Sealed, sealed)?;
         let phrase = followed(&rt, alloc, under_seals, Part::Branched, branched)?;
         assert!(rt; phrase.events() <= EVENTS);

@@ -92,10 +92,8 @@ fn leaf(alloc: Global, which: Leaf) -> Result<Box<Phrase>, NoMemory>
 fn measured(alloc: Global, target: Option<Name>, name: Name) -> Result<Box<Phrase>, NoMemory>
     ensures { IfOk result (λ phrase. boxed_term phrase ≡ measurement target (record { name = name; args = [] })) }
 {
-    let asp = Asp {
-        name,
-        args: Args::none(),
-    };
+    let args = Args::none();
+    let asp = Box::new(alloc, Asp { name, args })?;
     match target {
         None => Ok(Box::new(alloc, Phrase::Usm(asp))?),
         Some(target) => Ok(Box::new(alloc, Phrase::Kim(target, asp))?),

@@ -9,10 +9,10 @@ use std::alloc::Global;
 /// A copy of a part, or want of memory.
 type Copied = Result<Box<Phrase>, NoMemory>;
 
-// A phrase has room for a measurement in it, so a function that holds one, or lets one go, has a large
-// frame. These do, and each is called from two places, since a function that is called from one is put
-// into its caller. The recursion over the phrase holds boxes alone, and lets none go: a last part comes as
-// its copy was made.
+// A node is small, but a measurement isn't, so `leaf`, which copies one, has a large frame. It and those
+// that make a node or let one go are functions of their own, each called from two places, since a function
+// that is called from one is put into its caller. The recursion over the phrase holds boxes alone, and lets
+// none go: a last part comes as its copy was made.
 
 #[inline(never)]
 fn boxed(alloc: Global, phrase: Phrase) -> Copied
@@ -34,8 +34,8 @@ fn leaf(alloc: Global, phrase: &Phrase) -> Copied
         Phrase::Sig => boxed(alloc, Phrase::Sig),
         Phrase::Hsh => boxed(alloc, Phrase::Hsh),
         Phrase::Nul => boxed(alloc, Phrase::Nul),
-        Phrase::Usm(asp) => boxed(alloc, Phrase::Usm(asp.copy())),
-        Phrase::Kim(target, asp) => boxed(alloc, Phrase::Kim(*target, asp.copy())),
+        Phrase::Usm(asp) => boxed(alloc, Phrase::usm(alloc, asp.copy())?),
+        Phrase::Kim(target, asp) => boxed(alloc, Phrase::kim(alloc, *target, asp.copy())?),
         _ => unreachable!(),
     }
 }

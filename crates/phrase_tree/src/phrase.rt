@@ -1,5 +1,5 @@
 ghost use Rattle.std.specs.Prelude.{◌≡◌, ◌<◌, ◌+◌, ◌*◌, ◌^◌, ◌||◌, true, false, IfOk};
-ghost use Rattle.phrase_tree.specs.Term.{term, is_leaf, is_branch, is_chain};
+ghost use Rattle.phrase_tree.specs.Term.{term, leaf, usm, kim, is_leaf, is_branch, is_chain};
 ghost use Rattle.phrase_tree.specs.Letting.{steps};
 ghost use Rattle.phrase_tree.specs.Numbering.{event_count, depth};
 
@@ -36,9 +36,9 @@ pub enum Phrase {
     /// No evidence, in place of what stood before.
     Nul,
     /// A measurement by a service of the place.
-    Usm(Asp),
+    Usm(Box<Asp>),
     /// A measurement of a target place by a service of the place.
-    Kim(Place, Asp),
+    Kim(Place, Box<Asp>),
     /// A phrase that another place is asked to run.
     At(Place, Box<Phrase>),
     /// The second phrase on the evidence of the first.
@@ -47,6 +47,22 @@ pub enum Phrase {
     Seq(Split, Box<Phrase>, Box<Phrase>),
     /// Both arms in any order of their events.
     Par(Split, Box<Phrase>, Box<Phrase>),
+}
+
+impl Phrase {
+    /// A measurement by a service of the place. An error is want of memory.
+    pub fn usm(alloc: Global, asp: Asp) -> Result<Phrase, NoMemory>
+        ensures { IfOk result (λ made. term made ≡ leaf (usm asp)) }
+    {
+        Ok(Phrase::Usm(Box::new(alloc, asp)?))
+    }
+
+    /// A measurement of a target place by a service of the place. An error is want of memory.
+    pub fn kim(alloc: Global, target: Place, asp: Asp) -> Result<Phrase, NoMemory>
+        ensures { IfOk result (λ made. term made ≡ leaf (kim target asp)) }
+    {
+        Ok(Phrase::Kim(target, Box::new(alloc, asp)?))
+    }
 }
 
 impl Phrase {

@@ -165,9 +165,9 @@ fn every_form_has_its_events_and_its_depth_and_is_copied(rt: HostRuntime) -> Res
     assert_eq!(rt; Phrase::Cpy.events(), 1);
     assert_eq!(rt; Phrase::Sig.events(), 1);
     assert_eq!(rt; Phrase::Hsh.events(), 1);
-    let measured = Phrase::Usm(measurement(&rt, "scan"));
+    let measured = Phrase::usm(alloc, measurement(&rt, "scan"))?;
     assert_eq!(rt; measured.events(), 1);
-    let watched = Phrase::Kim(name(&rt, "q"), measurement(&rt, "scan"));
+    let watched = Phrase::kim(alloc, name(&rt, "q"), measurement(&rt, "scan"))?;
     assert_eq!(rt; watched.events(), 1);
     let signed = chained(alloc, measured, Phrase::Sig)?;
     assert_eq!(rt; signed.events(), 2);
@@ -187,7 +187,7 @@ fn every_form_has_its_events_and_its_depth_and_is_copied(rt: HostRuntime) -> Res
     assert_eq!(rt; emptied.depth(), 2);
     let behind = chained(
         alloc,
-        Phrase::Kim(name(&rt, "q"), measurement(&rt, "scan")),
+        Phrase::kim(alloc, name(&rt, "q"), measurement(&rt, "scan"))?,
         emptied,
     )?;
     assert_eq!(rt; behind.depth(), 3);
@@ -208,7 +208,7 @@ fn depths_are_the_brackets_of_the_text(rt: HostRuntime) -> Result<(), Fail> {
         right: true,
     };
     // USM scan
-    assert_eq!(rt; Phrase::Usm(measurement(&rt, "scan")).depth(), 0);
+    assert_eq!(rt; Phrase::usm(alloc, measurement(&rt, "scan"))?.depth(), 0);
     // CPY -> SIG -> HSH
     let chain = chained(alloc, Phrase::Cpy, Phrase::Sig)?;
     let left = chained(alloc, chain, Phrase::Hsh)?;
@@ -246,8 +246,8 @@ fn a_copy_is_equal_in_every_form(rt: HostRuntime) -> Result<(), Fail> {
     let mut files = measurement(&rt, "files");
     assert!(rt; files.args.push(Arg::Word(name(&rt, "etc"))).is_ok());
     assert!(rt; files.args.push(Arg::Number(7)).is_ok());
-    let watched = Phrase::Kim(name(&rt, "ks"), measurement(&rt, "kernel"));
-    let measured = chained(alloc, Phrase::Usm(files), watched)?;
+    let watched = Phrase::kim(alloc, name(&rt, "ks"), measurement(&rt, "kernel"))?;
+    let measured = chained(alloc, Phrase::usm(alloc, files)?, watched)?;
     let hashed = chained(alloc, measured, Phrase::Hsh)?;
     let there = asked(alloc, name(&rt, "us"), hashed)?;
     let to_left = Split {

@@ -55,7 +55,7 @@ fn asked(alloc: Global, place: Name, body: Phrase) -> Result<Phrase, NoMemory>
 fn q_measures(rt: &impl Abort, alloc: Global, text: &str) -> Result<Phrase, NoMemory>
     ensures { IfOk result (λ phrase. IsSized (term phrase)) }
 {
-    asked(alloc, name(rt, "q"), Phrase::Usm(asp(rt, text)))
+    asked(alloc, name(rt, "q"), Phrase::usm(alloc, asp(rt, text))?)
 }
 
 /// `@q [@bank [CPY]]`.
@@ -77,14 +77,14 @@ fn bank_asks_no_place(rt: &impl Abort, alloc: Global) -> Result<Phrase, NoMemory
     ensures { IfOk result (λ phrase. IsSized (term phrase)) }
 {
     let first = asked(alloc, name(rt, "zz"), Phrase::Cpy)?;
-    then(alloc, first, Phrase::Usm(asp(rt, "x")))
+    then(alloc, first, Phrase::usm(alloc, asp(rt, "x"))?)
 }
 
 /// `KIM bank scan`.
-fn bank_measures_itself(rt: &impl Abort) -> Phrase
-    ensures { IsSized (term result) }
+fn bank_measures_itself(rt: &impl Abort, alloc: Global) -> Result<Phrase, NoMemory>
+    ensures { IfOk result (λ phrase. IsSized (term phrase)) }
 {
-    Phrase::Kim(name(rt, "bank"), asp(rt, "scan"))
+    Phrase::kim(alloc, name(rt, "bank"), asp(rt, "scan"))
 }
 
 fn in_sequence(alloc: Global, split: Split, left: Phrase, right: Phrase) -> Result<Phrase, NoMemory>
@@ -101,8 +101,9 @@ fn right_arm_is_wrong(rt: &impl Abort, alloc: Global) -> Result<Phrase, NoMemory
         left: true,
         right: false,
     };
-    let left = Phrase::Usm(asp(rt, "a"));
-    in_sequence(alloc, split, left, Phrase::Usm(asp(rt, "c")))
+    let left = Phrase::usm(alloc, asp(rt, "a"))?;
+    let right = Phrase::usm(alloc, asp(rt, "c"))?;
+    in_sequence(alloc, split, left, right)
 }
 
 /// Checks a phrase at `bank`: the fault must be this one, or none.
@@ -162,7 +163,7 @@ fn the_first_broken_rule_is_named(rt: HostRuntime) -> Result<(), Fail> {
     let unknown = misplaced(0, PlaceKind::UnknownPlace);
     expect(&rt, &places, bank_asks_no_place(&rt, alloc)?, unknown);
     let sees = misplaced(0, PlaceKind::MayNotSee);
-    expect(&rt, &places, bank_measures_itself(&rt), sees);
+    expect(&rt, &places, bank_measures_itself(&rt, alloc)?, sees);
     let late = misplaced(2, PlaceKind::NotOffered);
     expect(&rt, &places, right_arm_is_wrong(&rt, alloc)?, late);
     Ok(())

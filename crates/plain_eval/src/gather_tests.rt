@@ -87,7 +87,7 @@ fn asked(alloc: Global, place: Name, body: Phrase) -> Result<Phrase, NoMemory>
 fn sealed_at_q(rt: &impl Abort, alloc: Global) -> Result<Phrase, NoMemory>
     ensures { IfOk result (λ phrase. IsSized (term phrase)) }
 {
-    let body = then(alloc, Phrase::Usm(asp(rt, "scan")), Phrase::Sig)?;
+    let body = then(alloc, Phrase::usm(alloc, asp(rt, "scan"))?, Phrase::Sig)?;
     asked(alloc, name(rt, "q"), body)
 }
 
@@ -104,8 +104,10 @@ fn asked_and_asked(rt: &impl Abort, alloc: Global) -> Result<Phrase, NoMemory>
 fn three(rt: &impl Abort, alloc: Global) -> Result<Phrase, NoMemory>
     ensures { IfOk result (λ phrase. IsSized (term phrase)) }
 {
-    let first = then(alloc, Phrase::Usm(asp(rt, "a")), Phrase::Usm(asp(rt, "b")))?;
-    then(alloc, first, Phrase::Usm(asp(rt, "scan")))
+    let a = Phrase::usm(alloc, asp(rt, "a"))?;
+    let b = Phrase::usm(alloc, asp(rt, "b"))?;
+    let first = then(alloc, a, b)?;
+    then(alloc, first, Phrase::usm(alloc, asp(rt, "scan"))?)
 }
 
 /// `SIG` this many times and once more, joined by ` -> `.

@@ -42,7 +42,7 @@ pub(crate) fn sealed(rt: &impl Abort, alloc: Global) -> Result<Phrase, NoMemory>
     ensures sized { IfOk result (λ phrase. IsSized (term phrase)) }
     ensures keys { (place : List ℕ) (keys : List (List ℕ × List ℕ)) → IsSome (key_of keys place) → IfOk result (λ phrase. HasKeys (term phrase) place keys) }
 {
-    then(alloc, Phrase::Usm(asp(rt, "scan")), Phrase::Sig)
+    then(alloc, Phrase::usm(alloc, asp(rt, "scan"))?, Phrase::Sig)
 }
 
 pub(crate) fn in_sequence(
@@ -71,12 +71,9 @@ pub(crate) fn paired(rt: &impl Abort, alloc: Global) -> Result<Phrase, NoMemory>
         left: true,
         right: false,
     };
-    in_parallel(
-        alloc,
-        split,
-        Phrase::Usm(asp(rt, "a")),
-        Phrase::Usm(asp(rt, "b")),
-    )
+    let left = Phrase::usm(alloc, asp(rt, "a"))?;
+    let right = Phrase::usm(alloc, asp(rt, "b"))?;
+    in_parallel(alloc, split, left, right)
 }
 
 /// `(CPY +<+ CPY) -> HSH`.

@@ -4,8 +4,8 @@ ghost use Rattle.phrase_tree.specs.Numbering.{IsSized};
 
 use super::*;
 use evidence_codec::BadKind;
-use phrase_tree::{Arg, Args, Asp, Name, Phrase, Place, Split};
-use std::alloc::{AllocError, Global};
+use phrase_tree::{Arg, Args, Asp, Name, NoMemory, Phrase, Place, Split};
+use std::alloc::Global;
 use std::test::Fail;
 
 fn asp(name: Name) -> Asp {
@@ -16,17 +16,17 @@ fn asp(name: Name) -> Asp {
 }
 
 // @q [USM scan -> SIG]
-fn asked(alloc: Global, q: Place, scan: Name) -> Result<Phrase, AllocError>
+fn asked(alloc: Global, q: Place, scan: Name) -> Result<Phrase, NoMemory>
     ensures { IfOk result (λ phrase. IsSized (term phrase)) }
 {
-    let left = Box::new(alloc, Phrase::Usm(asp(scan)))?;
+    let left = Box::new(alloc, Phrase::usm(alloc, asp(scan))?)?;
     let right = Box::new(alloc, Phrase::Sig)?;
     let body = Box::new(alloc, Phrase::Then(left, right))?;
     Ok(Phrase::At(q, body))
 }
 
 // @q [@bank [@q [CPY]]]
-fn asked_back(alloc: Global, q: Place, bank: Place) -> Result<Phrase, AllocError>
+fn asked_back(alloc: Global, q: Place, bank: Place) -> Result<Phrase, NoMemory>
     ensures { IfOk result (λ phrase. IsSized (term phrase)) }
 {
     let leaf = Box::new(alloc, Phrase::Cpy)?;
@@ -43,15 +43,15 @@ fn two_arguments(word: Name, number: u32) -> Args {
 }
 
 // USM a +~+ KIM q b a 7 -> HSH, or the same with +<+
-fn joined(alloc: Global, q: Place, a: Name, b: Name, parallel: bool) -> Result<Phrase, AllocError>
+fn joined(alloc: Global, q: Place, a: Name, b: Name, parallel: bool) -> Result<Phrase, NoMemory>
     ensures { IfOk result (λ phrase. IsSized (term phrase)) }
 {
-    let left = Box::new(alloc, Phrase::Usm(asp(a)))?;
+    let left = Box::new(alloc, Phrase::usm(alloc, asp(a))?)?;
     let measurement = Asp {
         name: b,
         args: two_arguments(a, 7),
     };
-    let right = Box::new(alloc, Phrase::Kim(q, measurement))?;
+    let right = Box::new(alloc, Phrase::kim(alloc, q, measurement)?)?;
     let split = Split {
         left: true,
         right: true,

@@ -35,7 +35,7 @@ arm_filled old opened mid inside now left right place i next slot empty was code
 pub part-returns-in_ok-push_instr-in-At-2-clause-blocks :
     goal.part-returns-in_ok-push_instr-in-At-2-clause-blocks
 part-returns-in_ok-push_instr-in-At-2-clause-blocks t c =
-    rw (c.in-At.is, ← c.deref.ensures) (request_filled _ _ _ _ (term c.deref.result.now) c.in-At.asked c.args.number _ _ c.new-inner.result.items c.part.new.code.items c.in_ok-slot-in-At.ensures.slot c.in_ok-slot-in-At.ensures.blocks c.new-inner.ensures.items c.in_ok-last-in-At.ensures.blocks c.in_ok-last-in-At.ensures.code c.in_ok-close_block-in-At.ensures)
+    rw (c.in-At.is, ← c.deref-in-At.ensures) (request_filled _ _ _ _ (term c.deref-in-At.result.now) c.in-At.asked c.args.number _ _ c.new-inner.result.items c.part.new.code.items c.in_ok-slot-in-At.ensures.slot c.in_ok-slot-in-At.ensures.blocks c.new-inner.ensures.items c.in_ok-last-in-At.ensures.blocks c.in_ok-last-in-At.ensures.code c.in_ok-close_block-in-At.ensures)
 
 pub part-returns-in_ok-push_instr-in-Par-2-clause-blocks :
     goal.part-returns-in_ok-push_instr-in-Par-2-clause-blocks

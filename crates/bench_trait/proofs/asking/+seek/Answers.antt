@@ -8,7 +8,7 @@ use Rattle.bench_trait.proofs.asking.+seek.Goals as goal
 pub returns-in-At : goal.returns-in-At
 returns-in-At t c =
     rw c.in-At.is
-    (request_sought c.args.nonce.now c.in-At.asked c.args.place (term c.in-At.body.value) c.args.first c.args.event c.seek.result c.past_last.result (rw c.deref.ensures at c.seek.ensures) c.past_last.ensures)
+    (request_sought c.args.nonce.now c.in-At.asked c.args.place (term c.in-At.body.value) c.args.first c.args.event c.seek.result c.past_last.result (rw c.deref-in-At.ensures at c.seek.ensures) c.past_last.ensures)
 
 pub returns-in-Found : goal.returns-in-Found
 returns-in-Found t c =

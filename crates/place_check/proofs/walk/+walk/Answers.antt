@@ -6,11 +6,11 @@ use Rattle.place_check.proofs.walk.+walk.Goals as goal
 
 pub returns-in-Ok-walk-clause-fault : goal.returns-in-Ok-walk-clause-fault
 returns-in-Ok-walk-clause-fault t c =
-    rw c.in-At.is (request-body c.args.places.now c.in-At.asked c.args.place (term c.in-At.body.value) c.args.number _ (rw c.request_fault.ensures at c.in-Ok.ensures.fault) (rw (c.deref.ensures, c.in-Ok.ensures.next) at c.in-Ok-walk.ensures.fault))
+    rw c.in-At.is (request-body c.args.places.now c.in-At.asked c.args.place (term c.in-At.body.value) c.args.number _ (rw c.request_fault.ensures at c.in-Ok.ensures.fault) (rw (c.deref-in-At.ensures, c.in-Ok.ensures.next) at c.in-Ok-walk.ensures.fault))
 
 pub returns-in-Err-walk-clause-fault : goal.returns-in-Err-walk-clause-fault
 returns-in-Err-walk-clause-fault t c =
-    rw c.in-At.is (request-body c.args.places.now c.in-At.asked c.args.place (term c.in-At.body.value) c.args.number _ (rw c.request_fault.ensures at c.in-Ok.ensures.fault) (rw (c.deref.ensures, c.in-Ok.ensures.next) at c.in-Err-walk.ensures.fault))
+    rw c.in-At.is (request-body c.args.places.now c.in-At.asked c.args.place (term c.in-At.body.value) c.args.number _ (rw c.request_fault.ensures at c.in-Ok.ensures.fault) (rw (c.deref-in-At.ensures, c.in-Ok.ensures.next) at c.in-Err-walk.ensures.fault))
 
 pub returns-in-Err-walk-2-clause-fault : goal.returns-in-Err-walk-2-clause-fault
 returns-in-Err-walk-2-clause-fault t c =

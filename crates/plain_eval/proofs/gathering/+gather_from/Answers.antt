@@ -17,7 +17,7 @@ returns-in-Cpy g t c =
 pub returns-in_ok-inside-in-At : goal.returns-in_ok-inside-in-At
 returns-in_ok-inside-in-At g t c =
     rw c.in-At.is
-    (request_walked _ _ c.args.asking.now.nonce.now c.in-At.place_asked c.args.place (term c.in-At.body.value) c.args.first c.args.answers c.in_ok-inside-in-At.inside c.past_last.result (rw c.deref.ensures at c.in_ok-inside-in-At.ensures) c.past_last.ensures)
+    (request_walked _ _ c.args.asking.now.nonce.now c.in-At.place_asked c.args.place (term c.in-At.body.value) c.args.first c.args.answers c.in_ok-inside-in-At.inside c.past_last.result (rw c.deref-in-At.ensures at c.in_ok-inside-in-At.ensures) c.past_last.ensures)
 
 pub returns-in-Passed : goal.returns-in-Passed
 returns-in-Passed g t c =
