@@ -1,160 +1,356 @@
--- A value that is read is the value that was written, and a value that was written is read again, whatever follows it.
-use Rattle.std.proofs.Common.{◌≡◌, ℕ, zero, suc, ◌+◌, ◌≤◌, Bool, true, false, List, [], ◌∷◌, ◌++◌, Ok, refl, sym, ap, subst, ◌∙◌, append_assoc, arith}
+-- The heads that are read are those of a value, and the heads of a value are read again, whatever follows them.
+use Rattle.std.proofs.Common.{◌≡◌, ℕ, zero, suc, ◌+◌, ◌≤◌, List, [], ◌∷◌, ◌++◌, length, drop, Option, Ok, Err, refl, sym, ap, ap₂, subst, ◌∙◌, append_assoc, append-nil, length-append, arith}
+use Rattle.std.proofs.lemmas.List.{drop_at, length-drop}
 use Rattle.evidence_types.specs.Evidence.{Evidence, empty, nonce, usm, kim, seal, hash, seq_pair, par_pair}
-use Rattle.evidence_types.specs.Bytes.{encoding, nesting}
-use Rattle.evidence_codec.specs.declared.fault.BadKind.TheVariants.{Short}
+use Rattle.evidence_types.specs.Bytes.{nesting}
+use Rattle.evidence_types.specs.Heads.{Head, empty_head, nonce_head, usm_head, kim_head, seal_head, hash_head, seq_head, par_head, head_bytes, heads, joined, mark_byte, next_mark, IsHead}
+use Rattle.evidence_types.specs.Marked.{measurements}
+use Rattle.evidence_types.specs.WellFormed.{IsWellFormed}
+use Rattle.evidence_types.proofs.HeadLemmas.{joined-append}
 use Rattle.evidence_codec.specs.declared.fault.Fault.{Fault}
-use Rattle.evidence_codec.specs.WellFormed.{IsWellFormed}
-use Rattle.evidence_codec.specs.Reading.{◌>>=◌, Found, Over, usm_over, kim_over, seal_over, wrapped, paired, Head, whole, over, pair, head_at, parts_at, value_at}
-use Rattle.evidence_codec.proofs.FieldLemmas.{IsBytes, bind_ok, ok_is, Front, Front-then}
-use Rattle.evidence_codec.proofs.HeadLemmas.{over_spelled, spelled, IsOver, IsLeaf, IsHead, head_takes, head_again}
+use Rattle.evidence_codec.specs.declared.version.Version.{Version}
+use Rattle.evidence_codec.specs.declared.version.Version.TheVariants.{Plain, Marked}
+use Rattle.evidence_codec.specs.Versions.{AreMarks}
+use Rattle.evidence_codec.specs.Reading.{Front, Found, head_at, part_count, before, followed, parts_at, with_parts, heads_at}
+use Rattle.evidence_codec.proofs.FieldLemmas.{IsBytes, Split, Split-then, IsMark}
+use Rattle.evidence_codec.proofs.HeadLemmas.{HasMark, head_takes, head_again}
 
--- ---- the bytes of a node are those of its head and of its parts
+abbrev pub found : List Head × List ℕ → Found
+found x = Ok x
 
-over-encoding : (node : Over) (under : Evidence) → encoding (wrapped node under) ≡ over_spelled node ++ encoding under
-over-encoding (usm_over event answer) under = refl
-over-encoding (kim_over event answer) under = refl
-over-encoding (seal_over event bytes) under = refl
+pub found-is : (x y : List Head × List ℕ) → found x ≡ found y → x ≡ y
+found-is x y e = cc
 
-over-nesting : (node : Over) (under : Evidence) → nesting (wrapped node under) ≡ 1 + nesting under
-over-nesting (usm_over event answer) under = refl
-over-nesting (kim_over event answer) under = refl
-over-nesting (seal_over event bytes) under = refl
+-- ---- marks
 
-over-well_formed : (node : Over) (under : Evidence) → IsOver node → IsWellFormed under → IsWellFormed (wrapped node under)
-over-well_formed (usm_over event answer) under h u = (h.0, h.1, u)
-over-well_formed (kim_over event answer) under h u = (h.0, h.1, u)
-over-well_formed (seal_over event bytes) under h u = (h.0, h.1, u)
+-- the marks of a pair are those of its left part and then those of its right part
+marks-joined : (version : Version) (m n : ℕ) (left right : List ℕ) → AreMarks version m left → AreMarks version n right → AreMarks version (m + n) (left ++ right)
+marks-joined Plain m n left right l r = ap₂ (λ (a b : List ℕ). a ++ b) l r
+marks-joined Marked m n left right l r = length-append left right ∙ ap₂ (λ (a b : ℕ). a + b) l r
 
-pair-encoding : (parallel : Bool) (left right : Evidence) → encoding (paired parallel left right) ≡ spelled (pair parallel) ++ (encoding left ++ encoding right)
-pair-encoding true left right = refl
-pair-encoding false left right = refl
+-- what a value makes of marks, where there are enough of them or none
+abbrev pub Enough : Version → ℕ → List ℕ → Type 0
+Enough Plain count marks = marks ≡ []
+Enough Marked count marks = count ≤ length marks
 
-pair-nesting : (parallel : Bool) (left right : Evidence) (depth : ℕ) → nesting left ≤ depth → nesting right ≤ depth → nesting (paired parallel left right) ≤ suc depth
-pair-nesting true left right depth l r = omega arith
-pair-nesting false left right depth l r = omega arith
+abbrev no_marks : List ℕ
+no_marks = []
 
-pair-well_formed : (parallel : Bool) (left right : Evidence) → IsWellFormed left → IsWellFormed right → IsWellFormed (paired parallel left right)
-pair-well_formed true left right l r = (l, r)
-pair-well_formed false left right l r = (l, r)
+drop-none : (n : ℕ) → drop n no_marks ≡ []
+drop-none zero = refl
+drop-none (suc n) = refl
 
-leaf-well_formed : (value : Evidence) → IsLeaf value → IsWellFormed value
-leaf-well_formed empty h = tt
-leaf-well_formed (nonce bytes) h = h
-leaf-well_formed (usm event answer under) h = absurd h
-leaf-well_formed (kim event answer under) h = absurd h
-leaf-well_formed (seal event bytes under) h = absurd h
-leaf-well_formed (hash event bytes) h = h
-leaf-well_formed (seq_pair left right) h = absurd h
-leaf-well_formed (par_pair left right) h = absurd h
+drop-append : (n : ℕ) (left right : List ℕ) → n ≤ length left → drop n (left ++ right) ≡ drop n left ++ right
+drop-append zero left right le = refl
+drop-append (suc n) [] right le = absurd (omega arith)
+drop-append (suc n) (first ∷ rest) right le = drop-append n rest right (omega arith)
 
-leaf-nesting : (value : Evidence) → IsLeaf value → nesting value ≡ 1
-leaf-nesting empty h = refl
-leaf-nesting (nonce bytes) h = refl
-leaf-nesting (usm event answer under) h = absurd h
-leaf-nesting (kim event answer under) h = absurd h
-leaf-nesting (seal event bytes under) h = absurd h
-leaf-nesting (hash event bytes) h = refl
-leaf-nesting (seq_pair left right) h = absurd h
-leaf-nesting (par_pair left right) h = absurd h
+next-append : (left right : List ℕ) → 1 ≤ length left → next_mark (left ++ right) ≡ next_mark left
+next-append [] right le = absurd (omega arith)
+next-append (first ∷ rest) right le = refl
+
+-- marks behind those that a value takes change none of its heads
+heads-more : (value : Evidence) (marks more : List ℕ) → measurements value ≤ length marks → heads value (marks ++ more) ≡ heads value marks
+heads-more empty marks more le = refl
+heads-more (nonce bytes) marks more le = refl
+heads-more (usm event answer under) marks more le =
+    ap₂ (λ (m : Option ℕ) (t : List Head). usm_head event m answer ∷ t) (next-append marks more (omega (arith, le)))
+    (ap (heads under) (drop-append 1 marks more (omega (arith, le))) ∙ heads-more under (drop 1 marks) more (omega (arith, le, length-drop 1 marks)))
+heads-more (kim event answer under) marks more le =
+    ap₂ (λ (m : Option ℕ) (t : List Head). kim_head event m answer ∷ t) (next-append marks more (omega (arith, le)))
+    (ap (heads under) (drop-append 1 marks more (omega (arith, le))) ∙ heads-more under (drop 1 marks) more (omega (arith, le, length-drop 1 marks)))
+heads-more (seal event bytes under) marks more le = ap (λ (t : List Head). seal_head event bytes ∷ t) (heads-more under marks more le)
+heads-more (hash event bytes) marks more le = refl
+heads-more (seq_pair left right) marks more le =
+    ap₂ (λ (a b : List Head). seq_head ∷ (a ++ b)) (heads-more left marks more (omega (arith, le)))
+    (ap (heads right) (drop-append (measurements left) marks more (omega (arith, le))) ∙ heads-more right (drop (measurements left) marks) more (omega (arith, le, length-drop (measurements left) marks)))
+heads-more (par_pair left right) marks more le =
+    ap₂ (λ (a b : List Head). par_head ∷ (a ++ b)) (heads-more left marks more (omega (arith, le)))
+    (ap (heads right) (drop-append (measurements left) marks more (omega (arith, le))) ∙ heads-more right (drop (measurements left) marks) more (omega (arith, le, length-drop (measurements left) marks)))
+
+-- the heads of the two parts of a pair, each with its own marks, are those with the marks of both
+pair-heads : (version : Version) (left right : Evidence) (first second : List ℕ) → AreMarks version (measurements left) first → AreMarks version (measurements right) second
+    → heads left (first ++ second) ++ heads right (drop (measurements left) (first ++ second)) ≡ heads left first ++ heads right second
+pair-heads Plain left right first second l r =
+    rw (l, r) (ap (λ (m : List ℕ). heads left no_marks ++ heads right m) (drop-none (measurements left)))
+pair-heads Marked left right first second l r =
+    ap₂ (λ (a : List Head) (m : List ℕ). a ++ heads right m) (heads-more left first second (omega (arith, l))) (drop_at first second (measurements left) l)
 
 -- ---- what is read was written
 
-pub record ValueRead (depth : ℕ) (bytes : List ℕ) (x : Evidence × List ℕ) : Type 0 where
-  pub front : Front bytes (encoding x.0) x.1
-  pub well_formed : IsWellFormed x.0
-  pub shallow : nesting x.0 ≤ depth
+-- heads are those of a value with marks, which nests at most so deep
+pub record ValueRead (version : Version) (depth : ℕ) (bytes : List ℕ) (x : List Head × List ℕ) : Type 0 where
+  pub value : Evidence
+  pub marks : List ℕ
+  pub heads_are : x.0 ≡ heads value marks
+  pub are_marks : AreMarks version (measurements value) marks
+  pub well_formed : IsWellFormed value
+  pub shallow : nesting value ≤ depth
+  pub front : Split bytes (joined x.0) x.1
 
-parts_take : (part : List ℕ → Found Evidence) (depth : ℕ) → ((bytes : List ℕ) (x : Evidence × List ℕ) → IsBytes bytes → part bytes ≡ Ok x → ValueRead depth bytes x)
-    → (bytes : List ℕ) (head : Head) (rest : List ℕ) (x : Evidence × List ℕ) → Front bytes (spelled head) rest → IsHead head → parts_at part head rest ≡ Ok x → ValueRead (suc depth) bytes x
+-- heads are those of so many values
+abbrev AreParts : Version → ℕ → ℕ → List ℕ → List Head × List ℕ → Type 0
+AreParts version depth zero bytes x = (x.0 ≡ []) × (x.1 ≡ bytes)
+AreParts version depth (suc more) bytes x =
+    (first : List Head × List ℕ) × (rest : List Head × List ℕ) × ValueRead version depth bytes first × AreParts version depth more first.1 rest × (x ≡ (first.0 ++ rest.0, rest.1))
+
+-- a thing that is followed by another
+pub record Followed (r : Found) (next : List ℕ → Found) (x : List Head × List ℕ) : Type 0 where
+  pub first : List Head × List ℕ
+  pub rest : List Head × List ℕ
+  pub first_is : r ≡ Ok first
+  pub rest_is : next first.1 ≡ Ok rest
+  pub both : x ≡ (first.0 ++ rest.0, rest.1)
+
+before_ok : (hs : List Head) (r : Found) (x : List Head × List ℕ) → before hs r ≡ Ok x → (rest : List Head × List ℕ) × (r ≡ Ok rest) × (x ≡ (hs ++ rest.0, rest.1))
+before_ok hs (Ok rest) x e = (rest, refl, sym (found-is (hs ++ rest.0, rest.1) x e))
+before_ok hs (Err d) x e = absurd cc
+
+followed_ok : (r : Found) (next : List ℕ → Found) (x : List Head × List ℕ) → followed r next ≡ Ok x → Followed r next x
+followed_ok (Ok first) next x e =
+    let b = before_ok first.0 (next first.1) x e in
+    record { first = first; rest = b.0; first_is = refl; rest_is = b.1; both = b.2 }
+followed_ok (Err d) next x e = absurd cc
+
+parts_take : (version : Version) (part : List ℕ → Found) (depth : ℕ) → ((bytes : List ℕ) (x : List Head × List ℕ) → IsBytes bytes → part bytes ≡ Ok x → ValueRead version depth bytes x)
+    → (count : ℕ) (bytes : List ℕ) (x : List Head × List ℕ) → IsBytes bytes → parts_at part count bytes ≡ Ok x → AreParts version depth count bytes x
 unfolding parts_at
-parts_take part depth each bytes (whole value) rest x front h e =
-    let made : ValueRead (suc depth) bytes (value, rest) = record { front = front; well_formed = leaf-well_formed value h; shallow = omega (arith, leaf-nesting value h) } in
-    subst (λ (p : Evidence × List ℕ). ValueRead (suc depth) bytes p) (ok_is (value, rest) x e) made
-parts_take part depth each bytes (over node) rest x front h e =
-    let b = bind_ok (part rest) (λ under. Ok (wrapped node under.0, under.1)) x e in
-    let r = each rest b.0 front.rest_fits b.1 in
-    let both = Front-then bytes (over_spelled node) rest (encoding b.0.0) b.0.1 front r.front in
-    let made : ValueRead (suc depth) bytes (wrapped node b.0.0, b.0.1) = record {
-      front = subst (λ (text : List ℕ). Front bytes text b.0.1) (sym (over-encoding node b.0.0)) both;
-      well_formed = over-well_formed node b.0.0 h r.well_formed;
-      shallow = omega (arith, over-nesting node b.0.0, r.shallow);
-    } in
-    subst (λ (p : Evidence × List ℕ). ValueRead (suc depth) bytes p) (ok_is (wrapped node b.0.0, b.0.1) x b.2) made
-parts_take part depth each bytes (pair parallel) rest x front h e =
-    let a = bind_ok (part rest) (λ left. part left.1 >>= λ right. Ok (paired parallel left.0 right.0, right.1)) x e in
-    let b = bind_ok (part a.0.1) (λ right. Ok (paired parallel a.0.0 right.0, right.1)) x a.2 in
-    let l = each rest a.0 front.rest_fits a.1 in
-    let r = each a.0.1 b.0 l.front.rest_fits b.1 in
-    let parts = Front-then rest (encoding a.0.0) a.0.1 (encoding b.0.0) b.0.1 l.front r.front in
-    let both = Front-then bytes (spelled (pair parallel)) rest (encoding a.0.0 ++ encoding b.0.0) b.0.1 front parts in
-    let made : ValueRead (suc depth) bytes (paired parallel a.0.0 b.0.0, b.0.1) = record {
-      front = subst (λ (text : List ℕ). Front bytes text b.0.1) (sym (pair-encoding parallel a.0.0 b.0.0)) both;
-      well_formed = pair-well_formed parallel a.0.0 b.0.0 l.well_formed r.well_formed;
-      shallow = pair-nesting parallel a.0.0 b.0.0 depth l.shallow r.shallow;
-    } in
-    subst (λ (p : Evidence × List ℕ). ValueRead (suc depth) bytes p) (ok_is (paired parallel a.0.0 b.0.0, b.0.1) x b.2) made
+parts_take version part depth each zero bytes x fits e =
+    let k : ([], bytes) ≡ x = found-is ([], bytes) x e in
+    (sym (ap (λ (p : List Head × List ℕ). p.0) k), sym (ap (λ (p : List Head × List ℕ). p.1) k))
+parts_take version part depth each (suc more) bytes x fits e =
+    let f = followed_ok (part bytes) (λ rest. parts_at part more rest) x e in
+    let v = each bytes f.first fits f.first_is in
+    (f.first, f.rest, v, parts_take version part depth each more f.first.1 f.rest v.front.rest_fits f.rest_is, f.both)
 
-pub value_takes : (edge : Fault) (depth : ℕ) (bytes : List ℕ) (x : Evidence × List ℕ) → IsBytes bytes → value_at edge depth bytes ≡ Ok x → ValueRead depth bytes x
-unfolding value_at
-value_takes edge zero [] x fits e = absurd cc
-value_takes edge zero (tag ∷ rest) x fits e = absurd cc
-value_takes edge (suc depth) bytes x fits e =
-    let a = bind_ok (head_at edge bytes) (λ head. parts_at (value_at edge depth) head.0 head.1) x e in
-    let t = head_takes edge bytes a.0 fits a.1 in
-    parts_take (value_at edge depth) depth (λ bytes x fits e. value_takes edge depth bytes x fits e) bytes a.0.0 a.0.1 x t.front t.is_head a.2
+parts-front : (version : Version) (depth count : ℕ) (bytes : List ℕ) (x : List Head × List ℕ) → IsBytes bytes → AreParts version depth count bytes x → Split bytes (joined x.0) x.1
+parts-front version depth zero bytes x fits p = record {
+  parts = sym p.1 ∙ ap (λ (hs : List Head). joined hs ++ x.1) (sym p.0);
+  rest_fits = subst IsBytes (sym p.1) fits;
+}
+parts-front version depth (suc more) bytes x fits p =
+    let behind = parts-front version depth more p.0.1 p.1 p.2.front.rest_fits p.3 in
+    let both = Split-then bytes (joined p.0.0) p.0.1 (joined p.1.0) p.1.1 p.2.front behind in
+    subst (λ (y : List Head × List ℕ). Split bytes (joined y.0) y.1) (sym p.4)
+    (subst (λ (t : List ℕ). Split bytes t p.1.1) (sym (joined-append p.0.0 p.1.0)) both)
+
+-- a head with the heads of its parts: those of a node
+record Node (version : Version) (head : Head) (under : List Head) (depth : ℕ) : Type 0 where
+  pub value : Evidence
+  pub marks : List ℕ
+  pub heads_are : head ∷ under ≡ heads value marks
+  pub are_marks : AreMarks version (measurements value) marks
+  pub well_formed : IsWellFormed value
+  pub shallow : nesting value ≤ suc depth
+
+none-marks : (version : Version) → AreMarks version 0 no_marks
+none-marks Plain = refl
+none-marks Marked = refl
+
+leaf_node : (version : Version) (head : Head) (under : List Head) (depth : ℕ) (value : Evidence) → heads value no_marks ≡ head ∷ [] → measurements value ≡ 0 → IsWellFormed value → nesting value ≡ 1 → under ≡ [] → Node version head under depth
+leaf_node version head under depth value h m w n e = record {
+  value = value;
+  marks = no_marks;
+  heads_are = ap (λ (t : List Head). head ∷ t) e ∙ sym h;
+  are_marks = subst (λ (k : ℕ). AreMarks version k no_marks) (sym m) (none-marks version);
+  well_formed = w;
+  shallow = omega (arith, n);
+}
+
+-- a mark in front of those of the part
+record Carries (version : Version) (mark : Option ℕ) (count : ℕ) (marks : List ℕ) : Type 0 where
+  pub first_is : next_mark (mark_byte mark ++ marks) ≡ mark
+  pub rest_is : drop 1 (mark_byte mark ++ marks) ≡ marks
+  pub are_marks : AreMarks version (suc count) (mark_byte mark ++ marks)
+
+carries : (version : Version) (mark : Option ℕ) (count : ℕ) (marks : List ℕ) → IsMark version mark → AreMarks version count marks → Carries version mark count marks
+carries Plain mark count marks is are = rw (is, are) (record { first_is = refl; rest_is = refl; are_marks = refl })
+carries Marked mark count marks is are = rw is.1 (record { first_is = refl; rest_is = refl; are_marks = ap suc are })
+
+-- the only part
+only : (version : Version) (depth : ℕ) (bytes : List ℕ) (x : List Head × List ℕ) (p : AreParts version depth 1 bytes x) → x.0 ≡ heads p.2.value p.2.marks
+only version depth bytes x p = ap (λ (y : List Head × List ℕ). y.0) p.4 ∙ ap (λ (t : List Head). p.0.0 ++ t) p.3.0 ∙ append-nil p.0.0 ∙ p.2.heads_are
+
+node-read : (version : Version) (depth : ℕ) (head : Head) (bytes : List ℕ) (x : List Head × List ℕ) → IsHead head → HasMark version head → AreParts version depth (part_count head) bytes x → Node version head x.0 depth
+node-read version depth empty_head bytes x h m p = leaf_node version empty_head x.0 depth empty refl refl tt refl p.0
+node-read version depth (nonce_head text) bytes x h m p = leaf_node version (nonce_head text) x.0 depth (nonce text) refl refl h refl p.0
+node-read version depth (hash_head event text) bytes x h m p = leaf_node version (hash_head event text) x.0 depth (hash event text) refl refl h refl p.0
+node-read version depth (usm_head event mark answer) bytes x h m p =
+    let c = carries version mark (measurements p.2.value) p.2.marks m p.2.are_marks in
+    record {
+      value = usm event answer p.2.value;
+      marks = mark_byte mark ++ p.2.marks;
+      heads_are = ap (λ (t : List Head). usm_head event mark answer ∷ t) (only version depth bytes x p)
+          ∙ ap₂ (λ (k : Option ℕ) (l : List ℕ). usm_head event k answer ∷ heads p.2.value l) (sym c.first_is) (sym c.rest_is);
+      are_marks = c.are_marks;
+      well_formed = (h.0, h.1, p.2.well_formed);
+      shallow = omega (arith, p.2.shallow);
+    }
+node-read version depth (kim_head event mark answer) bytes x h m p =
+    let c = carries version mark (measurements p.2.value) p.2.marks m p.2.are_marks in
+    record {
+      value = kim event answer p.2.value;
+      marks = mark_byte mark ++ p.2.marks;
+      heads_are = ap (λ (t : List Head). kim_head event mark answer ∷ t) (only version depth bytes x p)
+          ∙ ap₂ (λ (k : Option ℕ) (l : List ℕ). kim_head event k answer ∷ heads p.2.value l) (sym c.first_is) (sym c.rest_is);
+      are_marks = c.are_marks;
+      well_formed = (h.0, h.1, p.2.well_formed);
+      shallow = omega (arith, p.2.shallow);
+    }
+node-read version depth (seal_head event text) bytes x h m p = record {
+  value = seal event text p.2.value;
+  marks = p.2.marks;
+  heads_are = ap (λ (t : List Head). seal_head event text ∷ t) (only version depth bytes x p);
+  are_marks = p.2.are_marks;
+  well_formed = (h.0, h.1, p.2.well_formed);
+  shallow = omega (arith, p.2.shallow);
+}
+node-read version depth seq_head bytes x h m p =
+    let second = only version depth p.0.1 p.1 p.3 in
+    record {
+      value = seq_pair p.2.value p.3.2.value;
+      marks = p.2.marks ++ p.3.2.marks;
+      heads_are = ap (λ (t : List Head). seq_head ∷ t)
+          (ap (λ (y : List Head × List ℕ). y.0) p.4 ∙ ap₂ (λ (a b : List Head). a ++ b) p.2.heads_are second
+          ∙ sym (pair-heads version p.2.value p.3.2.value p.2.marks p.3.2.marks p.2.are_marks p.3.2.are_marks));
+      are_marks = marks-joined version (measurements p.2.value) (measurements p.3.2.value) p.2.marks p.3.2.marks p.2.are_marks p.3.2.are_marks;
+      well_formed = (p.2.well_formed, p.3.2.well_formed);
+      shallow = omega (arith, p.2.shallow, p.3.2.shallow);
+    }
+node-read version depth par_head bytes x h m p =
+    let second = only version depth p.0.1 p.1 p.3 in
+    record {
+      value = par_pair p.2.value p.3.2.value;
+      marks = p.2.marks ++ p.3.2.marks;
+      heads_are = ap (λ (t : List Head). par_head ∷ t)
+          (ap (λ (y : List Head × List ℕ). y.0) p.4 ∙ ap₂ (λ (a b : List Head). a ++ b) p.2.heads_are second
+          ∙ sym (pair-heads version p.2.value p.3.2.value p.2.marks p.3.2.marks p.2.are_marks p.3.2.are_marks));
+      are_marks = marks-joined version (measurements p.2.value) (measurements p.3.2.value) p.2.marks p.3.2.marks p.2.are_marks p.3.2.are_marks;
+      well_formed = (p.2.well_formed, p.3.2.well_formed);
+      shallow = omega (arith, p.2.shallow, p.3.2.shallow);
+    }
+
+-- a head and its parts were read
+record WithParts (part : List ℕ → Found) (r : Front Head) (x : List Head × List ℕ) : Type 0 where
+  pub head : Head × List ℕ
+  pub rest : List Head × List ℕ
+  pub head_is : r ≡ Ok head
+  pub rest_is : parts_at part (part_count head.0) head.1 ≡ Ok rest
+  pub both : x ≡ (head.0 ∷ rest.0, rest.1)
+
+with_parts_ok : (edge : Fault) (bytes : List ℕ) (part : List ℕ → Found) (r : Front Head) (x : List Head × List ℕ) → with_parts edge bytes part r ≡ Ok x → WithParts part r x
+unfolding with_parts
+with_parts_ok edge bytes part (Ok head) x e =
+    let b = before_ok (head.0 ∷ []) (parts_at part (part_count head.0) head.1) x e in
+    record { head = head; rest = b.0; head_is = refl; rest_is = b.1; both = b.2 }
+with_parts_ok edge bytes part (Err stop) x e = absurd cc
+
+pub heads_take : (version : Version) (edge : Fault) (depth : ℕ) (bytes : List ℕ) (x : List Head × List ℕ) → IsBytes bytes → heads_at version edge depth bytes ≡ Ok x → ValueRead version depth bytes x
+unfolding heads_at
+heads_take version edge zero [] x fits e = absurd cc
+heads_take version edge zero (tag ∷ rest) x fits e = absurd cc
+heads_take version edge (suc depth) bytes x fits e =
+    let w = with_parts_ok edge bytes (heads_at version edge depth) (head_at version bytes) x e in
+    let h = head_takes version bytes w.head fits w.head_is in
+    let p = parts_take version (heads_at version edge depth) depth (λ bytes x fits e. heads_take version edge depth bytes x fits e) (part_count w.head.0) w.head.1 w.rest h.front.rest_fits w.rest_is in
+    let n = node-read version depth w.head.0 w.head.1 w.rest h.is_head h.has_mark p in
+    let f = parts-front version depth (part_count w.head.0) w.head.1 w.rest h.front.rest_fits p in
+    subst (λ (y : List Head × List ℕ). ValueRead version (suc depth) bytes y) (sym w.both) (record {
+      value = n.value;
+      marks = n.marks;
+      heads_are = n.heads_are;
+      are_marks = n.are_marks;
+      well_formed = n.well_formed;
+      shallow = n.shallow;
+      front = Split-then bytes (head_bytes w.head.0) w.head.1 (joined w.rest.0) w.rest.1 h.front f;
+    })
 
 -- ---- what was written is read
 
-pub value-head : (edge : Fault) (depth : ℕ) (bytes : List ℕ) (head : Head) (rest : List ℕ) → head_at edge bytes ≡ Ok (head, rest) → value_at edge (suc depth) bytes ≡ parts_at (value_at edge depth) head rest
-unfolding value_at
-value-head edge depth bytes head rest e = ap (λ (found : Found Head). found >>= λ x. parts_at (value_at edge depth) x.0 x.1) e
+pub with-head : (version : Version) (edge : Fault) (depth : ℕ) (bytes : List ℕ) (head : Head) (rest : List ℕ) → head_at version bytes ≡ Ok (head, rest) → heads_at version edge (suc depth) bytes ≡ before (head ∷ []) (parts_at (heads_at version edge depth) (part_count head) rest)
+unfolding heads_at with_parts
+with-head version edge depth bytes head rest e = ap (λ (r : Front Head). with_parts edge bytes (heads_at version edge depth) r) e
 
-leaf_again : (edge : Fault) (value : Evidence) (depth : ℕ) (rest : List ℕ) → IsLeaf value → 1 ≤ depth → value_at edge depth (encoding value ++ rest) ≡ Ok (value, rest)
+leaf_again : (version : Version) (edge : Fault) (head : Head) (depth : ℕ) (rest : List ℕ) → IsHead head → HasMark version head → part_count head ≡ 0 → heads_at version edge (suc depth) ((head_bytes head ++ []) ++ rest) ≡ Ok (head ∷ [], rest)
 unfolding parts_at
-leaf_again edge value zero rest h le = absurd (omega arith)
-leaf_again edge value (suc depth) rest h le = value-head edge depth (encoding value ++ rest) (whole value) rest (head_again edge (whole value) rest h)
+leaf_again version edge head depth rest h m none =
+    ap (λ (t : List ℕ). heads_at version edge (suc depth) (t ++ rest)) (append-nil (head_bytes head))
+    ∙ with-head version edge depth (head_bytes head ++ rest) head rest (head_again version head rest h m)
+    ∙ ap (λ (k : ℕ). before (head ∷ []) (parts_at (heads_at version edge depth) k rest)) none
 
-over_again : (edge : Fault) (node : Over) (under : Evidence) (depth : ℕ) (rest : List ℕ) → IsOver node → value_at edge depth (encoding under ++ rest) ≡ Ok (under, rest)
-    → value_at edge (suc depth) (encoding (wrapped node under) ++ rest) ≡ Ok (wrapped node under, rest)
+one_again : (version : Version) (edge : Fault) (head : Head) (under : List Head) (depth : ℕ) (rest : List ℕ) → IsHead head → HasMark version head → part_count head ≡ 1 → heads_at version edge depth (joined under ++ rest) ≡ Ok (under, rest)
+    → heads_at version edge (suc depth) ((head_bytes head ++ joined under) ++ rest) ≡ Ok (head ∷ under, rest)
 unfolding parts_at
-over_again edge node under depth rest h again =
-    let text : encoding (wrapped node under) ++ rest ≡ over_spelled node ++ (encoding under ++ rest) = ap (λ (t : List ℕ). t ++ rest) (over-encoding node under) ∙ append_assoc (over_spelled node) (encoding under) rest in
-    ap (value_at edge (suc depth)) text ∙ value-head edge depth (over_spelled node ++ (encoding under ++ rest)) (over node) (encoding under ++ rest) (head_again edge (over node) (encoding under ++ rest) h)
-    ∙ ap (λ (found : Found Evidence). found >>= λ x. Ok (wrapped node x.0, x.1)) again
+one_again version edge head under depth rest h m one e =
+    ap (λ (t : List ℕ). heads_at version edge (suc depth) t) (append_assoc (head_bytes head) (joined under) rest)
+    ∙ with-head version edge depth (head_bytes head ++ (joined under ++ rest)) head (joined under ++ rest) (head_again version head (joined under ++ rest) h m)
+    ∙ ap (λ (k : ℕ). before (head ∷ []) (parts_at (heads_at version edge depth) k (joined under ++ rest))) one
+    ∙ ap (λ (r : Found). before (head ∷ []) (followed r (λ (t : List ℕ). found ([], t)))) e
+    ∙ ap (λ (hs : List Head). found (head ∷ hs, rest)) (append-nil under)
 
-pair_again : (edge : Fault) (parallel : Bool) (left right : Evidence) (depth : ℕ) (rest : List ℕ) → value_at edge depth (encoding left ++ (encoding right ++ rest)) ≡ Ok (left, encoding right ++ rest) → value_at edge depth (encoding right ++ rest) ≡ Ok (right, rest)
-    → value_at edge (suc depth) (encoding (paired parallel left right) ++ rest) ≡ Ok (paired parallel left right, rest)
+two_again : (version : Version) (edge : Fault) (head : Head) (left right : List Head) (depth : ℕ) (rest : List ℕ) → IsHead head → HasMark version head → part_count head ≡ 2
+    → heads_at version edge depth (joined left ++ (joined right ++ rest)) ≡ Ok (left, joined right ++ rest) → heads_at version edge depth (joined right ++ rest) ≡ Ok (right, rest)
+    → heads_at version edge (suc depth) ((head_bytes head ++ joined (left ++ right)) ++ rest) ≡ Ok (head ∷ (left ++ right), rest)
 unfolding parts_at
-pair_again edge parallel left right depth rest l r =
-    let parts : (encoding left ++ encoding right) ++ rest ≡ encoding left ++ (encoding right ++ rest) = append_assoc (encoding left) (encoding right) rest in
-    let text : encoding (paired parallel left right) ++ rest ≡ spelled (pair parallel) ++ (encoding left ++ (encoding right ++ rest)) =
-    ap (λ (t : List ℕ). t ++ rest) (pair-encoding parallel left right) ∙ append_assoc (spelled (pair parallel)) (encoding left ++ encoding right) rest ∙ ap (λ (t : List ℕ). spelled (pair parallel) ++ t) parts in
-    ap (value_at edge (suc depth)) text ∙ value-head edge depth (spelled (pair parallel) ++ (encoding left ++ (encoding right ++ rest))) (pair parallel) (encoding left ++ (encoding right ++ rest)) (head_again edge (pair parallel) (encoding left ++ (encoding right ++ rest)) tt)
-    ∙ ap (λ (found : Found Evidence). found >>= λ x. value_at edge depth x.1 >>= λ y. Ok (paired parallel x.0 y.0, y.1)) l
-    ∙ ap (λ (found : Found Evidence). found >>= λ y. Ok (paired parallel left y.0, y.1)) r
+two_again version edge head left right depth rest h m two l r =
+    let behind : List ℕ = joined left ++ (joined right ++ rest) in
+    ap (λ (t : List ℕ). heads_at version edge (suc depth) ((head_bytes head ++ t) ++ rest)) (joined-append left right)
+    ∙ ap (λ (t : List ℕ). heads_at version edge (suc depth) t) (append_assoc (head_bytes head) (joined left ++ joined right) rest ∙ ap (λ (t : List ℕ). head_bytes head ++ t) (append_assoc (joined left) (joined right) rest))
+    ∙ with-head version edge depth (head_bytes head ++ behind) head behind (head_again version head behind h m)
+    ∙ ap (λ (k : ℕ). before (head ∷ []) (parts_at (heads_at version edge depth) k behind)) two
+    ∙ ap (λ (x : Found). before (head ∷ []) (followed x (λ (t : List ℕ). followed (heads_at version edge depth t) (λ (u : List ℕ). found ([], u))))) l
+    ∙ ap (λ (x : Found). before (head ∷ []) (before left (followed x (λ (u : List ℕ). found ([], u))))) r
+    ∙ ap (λ (hs : List Head). found (head ∷ (left ++ hs), rest)) (append-nil right)
 
-pub value_again : (edge : Fault) (value : Evidence) (depth : ℕ) (rest : List ℕ) → IsWellFormed value → nesting value ≤ depth → value_at edge depth (encoding value ++ rest) ≡ Ok (value, rest)
-value_again edge empty depth rest h le = leaf_again edge empty depth rest tt le
-value_again edge (nonce bytes) depth rest h le = leaf_again edge (nonce bytes) depth rest h le
-value_again edge (hash event bytes) depth rest h le = leaf_again edge (hash event bytes) depth rest h le
-value_again edge (usm event answer under) zero rest h le = absurd (omega arith)
-value_again edge (usm event answer under) (suc depth) rest h le = over_again edge (usm_over event answer) under depth rest (h.0, h.1) (value_again edge under depth rest h.2 (omega arith))
-value_again edge (kim event answer under) zero rest h le = absurd (omega arith)
-value_again edge (kim event answer under) (suc depth) rest h le = over_again edge (kim_over event answer) under depth rest (h.0, h.1) (value_again edge under depth rest h.2 (omega arith))
-value_again edge (seal event bytes under) zero rest h le = absurd (omega arith)
-value_again edge (seal event bytes under) (suc depth) rest h le = over_again edge (seal_over event bytes) under depth rest (h.0, h.1) (value_again edge under depth rest h.2 (omega arith))
-value_again edge (seq_pair left right) zero rest h le = absurd (omega arith)
-value_again edge (seq_pair left right) (suc depth) rest h le = pair_again edge false left right depth rest (value_again edge left depth (encoding right ++ rest) h.0 (omega arith)) (value_again edge right depth rest h.1 (omega arith))
-value_again edge (par_pair left right) zero rest h le = absurd (omega arith)
-value_again edge (par_pair left right) (suc depth) rest h le = pair_again edge true left right depth rest (value_again edge left depth (encoding right ++ rest) h.0 (omega arith)) (value_again edge right depth rest h.1 (omega arith))
+-- the marks of a measurement's part, and its own
+enough-rest : (version : Version) (count : ℕ) (marks : List ℕ) → Enough version (suc count) marks → Enough version count (drop 1 marks)
+enough-rest Plain count marks e = rw e refl
+enough-rest Marked count marks le = omega (arith, le, length-drop 1 marks)
 
--- no spelling begins another
-pub one_spelling : (left right : Evidence) (x y : List ℕ) → IsWellFormed left → IsWellFormed right → encoding left ++ x ≡ encoding right ++ y → (left ≡ right) × (x ≡ y)
-one_spelling left right x y l r e =
-    let edge : Fault = record { at = 0; kind = Short } in
-    let depth : ℕ = nesting left + nesting right in
-    let first : value_at edge depth (encoding left ++ x) ≡ Ok (left, x) = value_again edge left depth x l (omega arith) in
-    let second : value_at edge depth (encoding right ++ y) ≡ Ok (right, y) = value_again edge right depth y r (omega arith) in
-    let same : (left, x) ≡ (right, y) = ok_is (left, x) (right, y) (sym first ∙ ap (value_at edge depth) e ∙ second) in
-    (ap (λ (p : Evidence × List ℕ). p.0) same, ap (λ (p : Evidence × List ℕ). p.1) same)
+enough-first : (version : Version) (count : ℕ) (marks : List ℕ) → Enough version (suc count) marks → IsMark version (next_mark marks)
+enough-first Plain count marks e = rw e refl
+enough-first Marked count [] le = absurd (omega arith)
+enough-first Marked count (mark ∷ marks) le = (mark, refl)
+
+enough-left : (version : Version) (m n : ℕ) (marks : List ℕ) → Enough version (m + n) marks → Enough version m marks
+enough-left Plain m n marks e = e
+enough-left Marked m n marks le = omega (arith, le)
+
+enough-right : (version : Version) (m n : ℕ) (marks : List ℕ) → Enough version (m + n) marks → Enough version n (drop m marks)
+enough-right Plain m n marks e = rw e (drop-none m)
+enough-right Marked m n marks le = omega (arith, le, length-drop m marks)
+
+pub enough : (version : Version) (count : ℕ) (marks : List ℕ) → AreMarks version count marks → Enough version count marks
+enough Plain count marks e = e
+enough Marked count marks e = omega (arith, e)
+
+pub heads_again : (version : Version) (edge : Fault) (value : Evidence) (marks : List ℕ) (depth : ℕ) (rest : List ℕ) → IsWellFormed value → Enough version (measurements value) marks → nesting value ≤ depth → heads_at version edge depth (joined (heads value marks) ++ rest) ≡ Ok (heads value marks, rest)
+heads_again version edge empty marks zero rest w m le = absurd (omega arith)
+heads_again version edge empty marks (suc depth) rest w m le = leaf_again version edge empty_head depth rest tt tt refl
+heads_again version edge (nonce bytes) marks zero rest w m le = absurd (omega arith)
+heads_again version edge (nonce bytes) marks (suc depth) rest w m le = leaf_again version edge (nonce_head bytes) depth rest w tt refl
+heads_again version edge (usm event answer under) marks zero rest w m le = absurd (omega arith)
+heads_again version edge (usm event answer under) marks (suc depth) rest w m le =
+    one_again version edge (usm_head event (next_mark marks) answer) (heads under (drop 1 marks)) depth rest (w.0, w.1) (enough-first version (measurements under) marks m) refl
+    (heads_again version edge under (drop 1 marks) depth rest w.2 (enough-rest version (measurements under) marks m) (omega arith))
+heads_again version edge (kim event answer under) marks zero rest w m le = absurd (omega arith)
+heads_again version edge (kim event answer under) marks (suc depth) rest w m le =
+    one_again version edge (kim_head event (next_mark marks) answer) (heads under (drop 1 marks)) depth rest (w.0, w.1) (enough-first version (measurements under) marks m) refl
+    (heads_again version edge under (drop 1 marks) depth rest w.2 (enough-rest version (measurements under) marks m) (omega arith))
+heads_again version edge (seal event bytes under) marks zero rest w m le = absurd (omega arith)
+heads_again version edge (seal event bytes under) marks (suc depth) rest w m le =
+    one_again version edge (seal_head event bytes) (heads under marks) depth rest (w.0, w.1) tt refl (heads_again version edge under marks depth rest w.2 m (omega arith))
+heads_again version edge (hash event bytes) marks zero rest w m le = absurd (omega arith)
+heads_again version edge (hash event bytes) marks (suc depth) rest w m le = leaf_again version edge (hash_head event bytes) depth rest w tt refl
+heads_again version edge (seq_pair left right) marks zero rest w m le = absurd (omega arith)
+heads_again version edge (seq_pair left right) marks (suc depth) rest w m le =
+    let behind : List Head = heads right (drop (measurements left) marks) in
+    two_again version edge seq_head (heads left marks) behind depth rest tt tt refl
+    (heads_again version edge left marks depth (joined behind ++ rest) w.0 (enough-left version (measurements left) (measurements right) marks m) (omega arith))
+    (heads_again version edge right (drop (measurements left) marks) depth rest w.1 (enough-right version (measurements left) (measurements right) marks m) (omega arith))
+heads_again version edge (par_pair left right) marks zero rest w m le = absurd (omega arith)
+heads_again version edge (par_pair left right) marks (suc depth) rest w m le =
+    let behind : List Head = heads right (drop (measurements left) marks) in
+    two_again version edge par_head (heads left marks) behind depth rest tt tt refl
+    (heads_again version edge left marks depth (joined behind ++ rest) w.0 (enough-left version (measurements left) (measurements right) marks m) (omega arith))
+    (heads_again version edge right (drop (measurements left) marks) depth rest w.1 (enough-right version (measurements left) (measurements right) marks m) (omega arith))

@@ -1,5 +1,8 @@
-pub mod WellFormed
+pub mod Versions
 pub mod Reading
-pub mod Opening
+pub mod Scanning
+pub mod Building
 pub mod Decoding
+pub mod Scanned
+pub mod Making
 pub mod Words

@@ -1,25 +1,45 @@
-ghost use Rattle.std.specs.Prelude.{◌≡◌, ◌≤◌, ◌+◌, ◌-◌, length, take, IfOk, Ok};
-ghost use Rattle.std.specs.Int.{w32};
+ghost use Rattle.std.specs.Prelude.{◌≡◌, ◌∷◌, ◌++◌, [], ℕ, List, IfOk, IfErr, OnOk, Ok, Option, Bool, false, true};
+ghost use Rattle.evidence_types.specs.Bundle.{IsBundleOf, IsEitherBundleOf};
 ghost use Rattle.evidence_types.specs.Evidence.{Evidence, evidence};
-ghost use Rattle.evidence_types.specs.Bytes.{bundle_head};
-ghost use Rattle.evidence_codec.specs.WellFormed.{IsBundleOf};
-ghost use Rattle.evidence_codec.specs.Reading.{fault, number_at, value_at, behind_byte, behind_head, edge_of, ended, value_of_length, read_bundle};
-ghost use Rattle.evidence_codec.specs.Opening.{Takes};
-ghost use Rattle.evidence_codec.specs.Decoding.{Gives, Decodes, head_within, head_of};
+ghost use Rattle.evidence_types.specs.Heads as heads_of;
+ghost use Rattle.evidence_types.specs.Heads.{IsHead, head_of, marks_of};
+ghost use Rattle.evidence_codec.specs.Decoding.{Decodes, DecodesTo, Fails, Names};
+ghost use Rattle.evidence_codec.specs.Making.{Goes, IsMade, IsRead};
+ghost use Rattle.evidence_codec.specs.Scanned.{IsReader};
+ghost use Rattle.evidence_codec.specs.Reading.{first_fault, first_fault_of_either, read_bundle};
 
-use crate::encoding::HEAD;
-use crate::fault::{BadKind, DecodeError, Fault};
-use crate::fields::{offset, u32_at};
-use crate::head::{Head, head_at};
+use crate::fault::{DecodeError, Fault};
 use crate::nodes::{Open, take};
-use evidence_types::Value;
+use crate::reader::Reader;
+use crate::version::Version;
+use byte_ports::Bytes;
+use evidence_types::{Head, Value};
+use phrase_tree::NoMemory;
 use std::alloc::Global;
 
-/// How deep the nodes of a value may nest.
-const NESTING: usize = 1025;
+/// A value that was decoded. From a bundle of version 2 it has the marks of its measurements, a node before
+/// its parts and left before right.
+#[derive(Debug, Drop)]
+pub struct Decoded {
+    pub value: Value,
+    pub marks: Option<Bytes>,
+}
 
-/// The greatest length of a value, in bytes.
-const VALUE_BYTES: u32 = 262_144;
+/// What was made of the heads that came: the open nodes or the whole value, and the marks.
+#[derive(Debug, Drop)]
+pub struct Made {
+    nodes: Vec<Open>,
+    whole: Option<Value>,
+    marks: Vec<u8>,
+}
+
+/// A whole bundle: its version, its value, and the marks.
+#[derive(Debug, Drop)]
+pub struct Whole {
+    version: Version,
+    value: Value,
+    marks: Vec<u8>,
+}
 
 fn bad(first: Fault) -> DecodeError
     ensures { result ≡ DecodeError.Bad first.at first.kind }
@@ -30,186 +50,152 @@ fn bad(first: Fault) -> DecodeError
     }
 }
 
-#[tactic(auto, unfolding(crate::specs::Decoding::head_within))]
-fn head_within(edge: Fault, depth: usize, bytes: &[u8]) -> Result<(Head, &[u8]), Fault>
-    requires few { depth ≤ 1025 }
-    requires edge { length bytes.now ≤ edge.at }
-    ensures { Gives (λ found. (head_of found.0, found.1.now)) result (head_within edge (1025 - depth) bytes.now) }
+fn mark_of(head: &Head<'_>) -> Option<u8>
+    ensures { marks_of (head_of head.now ∷ []) ≡ heads_of.mark_byte result }
 {
-    if depth < NESTING {
-        return head_at(edge, bytes);
+    match head {
+        Head::Usm(_, mark, _) => *mark,
+        Head::Kim(_, mark, _) => *mark,
+        Head::Empty => None,
+        Head::Nonce(_) => None,
+        Head::Seal(_, _) => None,
+        Head::Hash(_, _) => None,
+        Head::SeqPair => None,
+        Head::ParPair => None,
     }
-    if bytes.is_empty() {
-        return Err(edge);
-    }
-    Err(Fault {
-        at: offset(edge, bytes),
-        kind: BadKind::Deep,
-    })
 }
 
-/// The value at the front of the bytes, and the bytes after it.
-fn value_at(alloc: Global, edge: Fault, bytes: &[u8]) -> Result<(Value, &[u8]), DecodeError>
-    requires { length bytes.now ≤ edge.at }
-    ensures read { Decodes (λ found. (evidence found.0, found.1.now)) result (value_at edge 1025 bytes.now) }
-    ensures within { IfOk result (λ found. length found.1.now ≤ edge.at) }
+fn push_mark(marks: &mut Vec<u8>, head: &Head<'_>) -> Result<(), NoMemory>
+    ensures { OnOk result (marks.new.items ≡ marks.old.items ++ marks_of (head_of head.now ∷ [])) }
 {
-    let mut nodes: Vec<Open> = Vec::new(alloc);
-    let mut rest = bytes;
-    'nodes: loop {
-        let (head, behind) = match head_within(edge, nodes.len(), rest) {
-            Ok(found) => found,
-            Err(first) => return Err(bad(first)),
-        };
-        rest = behind;
-        match take(alloc, &mut nodes, head) {
-            Ok(None) => {}
-            Ok(Some(value)) => return Ok((value, rest)),
+    let Some(mark) = mark_of(head) else {
+        return Ok(());
+    };
+    match marks.push(mark) {
+        Ok(()) => Ok(()),
+        Err(_) => Err(NoMemory),
+    }
+}
+
+/// Puts the next head into what was made.
+fn put(alloc: Global, made: &mut Made, head: &Head<'_>) -> Result<(), NoMemory>
+    requires { IsHead (head_of head.now) }
+    ensures { OnOk result ((read : List heads_of.Head) → IsMade read made.old → IsMade (read ++ head_of head.now ∷ []) made.new) }
+{
+    push_mark(&mut made.marks, head)?;
+    match take(alloc, &mut made.nodes, head) {
+        Ok(whole) => {
+            made.whole = whole;
+            Ok(())
+        }
+        Err(_) => Err(NoMemory),
+    }
+}
+
+/// Takes one more byte.
+fn go_on(alloc: Global, reader: &mut Reader, made: &mut Made, byte: u8) -> Result<(), NoMemory>
+    requires { IsReader reader.old }
+    ensures ready { OnOk result (IsReader reader.new) }
+    ensures goes { OnOk result ((either : Bool) (bytes : List ℕ) → Goes either bytes reader.old made.old → Goes either (bytes ++ byte ∷ []) reader.new made.new) }
+{
+    reader.take(byte);
+    match reader.head() {
+        Some(head) => put(alloc, made, &head),
+        None => Ok(()),
+    }
+}
+
+fn nothing(alloc: Global) -> Made
+    ensures { IsMade [] result }
+{
+    Made {
+        nodes: Vec::new(alloc),
+        whole: None,
+        marks: Vec::new(alloc),
+    }
+}
+
+/// The bundle that these bytes are, of version 1 or of either version.
+fn read(alloc: Global, either: bool, bytes: &[u8]) -> Result<Whole, DecodeError>
+    ensures whole { IfOk result (λ whole. IsRead either bytes.now whole.version (evidence whole.value) whole.marks.items) }
+    ensures first { IfErr result (λ error. Fails error (read_bundle either bytes.now)) }
+{
+    let mut reader = Reader::open(either);
+    let mut made = nothing(alloc);
+    for byte in bytes {
+        match go_on(alloc, &mut reader, &mut made, *byte) {
+            Ok(()) => {}
             Err(_) => return Err(DecodeError::NoMemory),
         }
     }
-}
-
-fn behind(wanted: u8, at: u32, bytes: &[u8]) -> Result<&[u8], Fault>
-    ensures { Gives (λ rest. rest.now) result (behind_byte wanted at bytes.now) }
-{
-    let [byte, rest @ ..] = bytes else {
-        return Err(Fault {
-            at,
-            kind: BadKind::Short,
-        });
-    };
-    if *byte != wanted {
-        return Err(Fault {
-            at,
-            kind: BadKind::Tag,
-        });
-    }
-    Ok(rest)
-}
-
-#[tactic(auto, unfolding(crate::specs::Reading::behind_head))]
-fn behind_head(bytes: &[u8]) -> Result<&[u8], Fault>
-    ensures { Gives (λ rest. rest.now) result (behind_head bundle_head 0 bytes.now) }
-{
-    let rest = behind(HEAD[0], 0, bytes)?;
-    let rest = behind(HEAD[1], 1, rest)?;
-    let rest = behind(HEAD[2], 2, rest)?;
-    let rest = behind(HEAD[3], 3, rest)?;
-    behind(HEAD[4], 4, rest)
-}
-
-fn length_at(bytes: &[u8]) -> Result<(u32, &[u8]), Fault>
-    ensures { Gives (λ found. (found.0, found.1.now)) result (number_at (fault (5 + length bytes.now) BadKind.Short) w32 bytes.now) }
-{
-    if bytes.len() < 4 {
-        return Err(Fault {
-            at: 5 + bytes.len() as u32,
-            kind: BadKind::Short,
-        });
-    }
-    u32_at(
-        Fault {
-            at: 9,
-            kind: BadKind::Short,
-        },
-        bytes,
-    )
-}
-
-/// Where the value of a bundle must end, and its bytes as far as they are there.
-#[tactic(auto, unfolding(crate::specs::Reading::edge_of))]
-fn region(len: u32, bytes: &[u8]) -> (Fault, &[u8])
-    requires { len ≤ 262144 }
-    ensures edge { result.0 ≡ edge_of len bytes.now }
-    ensures bytes { result.1.now ≡ take len bytes.now }
-    ensures within { length result.1.now ≤ result.0.at }
-{
-    if bytes.len() < len as usize {
-        let edge = Fault {
-            at: 9 + bytes.len() as u32,
-            kind: BadKind::Short,
-        };
-        return (edge, bytes);
-    }
-    let edge = Fault {
-        at: 9 + len,
-        kind: BadKind::Length,
-    };
-    (edge, &bytes[..len as usize])
-}
-
-#[tactic(auto, unfolding(crate::specs::Reading::ended))]
-fn ended(len: u32, bytes: &[u8], edge: Fault, value: Value, rest: &[u8]) -> Result<Value, Fault>
-    requires len { len ≤ 262144 }
-    requires within { length rest.now ≤ edge.at }
-    ensures { Gives evidence result (ended len bytes.now edge (evidence value, rest.now)) }
-{
-    let at = offset(edge, rest);
-    if at < 9 + len {
-        return Err(Fault {
-            at,
-            kind: BadKind::Length,
-        });
-    }
-    if bytes.len() > len as usize {
-        return Err(Fault {
-            at: 9 + len,
-            kind: BadKind::Rest,
-        });
-    }
-    Ok(value)
-}
-
-#[tactic(auto, unfolding(crate::specs::Reading::value_of_length))]
-fn value_of_length(alloc: Global, len: u32, bytes: &[u8]) -> Result<Value, DecodeError>
-    ensures { Decodes evidence result (value_of_length len bytes.now) }
-{
-    if len > VALUE_BYTES {
-        return Err(DecodeError::Bad {
-            at: 5,
-            kind: BadKind::Length,
-        });
-    }
-    let (edge, there) = region(len, bytes);
-    let (value, rest) = match value_at(alloc, edge, there) {
-        Ok(found) => found,
-        Err(error) => return Err(error),
-    };
-    match ended(len, bytes, edge, value, rest) {
-        Ok(value) => Ok(value),
-        Err(first) => Err(bad(first)),
-    }
-}
-
-#[tactic(auto, unfolding(crate::specs::Reading::read_bundle))]
-fn read_bundle(alloc: Global, bytes: &[u8]) -> Result<Value, DecodeError>
-    ensures { Decodes evidence result (read_bundle bytes.now) }
-{
-    let rest = match behind_head(bytes) {
-        Ok(rest) => rest,
+    let version = match reader.finish() {
+        Ok(version) => version,
         Err(first) => return Err(bad(first)),
     };
-    let (len, rest) = match length_at(rest) {
-        Ok(found) => found,
-        Err(first) => return Err(bad(first)),
-    };
-    value_of_length(alloc, len, rest)
+    let Made {
+        nodes: _,
+        whole,
+        marks,
+    } = made;
+    let Some(value) = whole else { unreachable!() };
+    Ok(Whole {
+        version,
+        value,
+        marks,
+    })
 }
 
-/// The value whose bundle these bytes are. If they are not a bundle, the first fault from the left,
+/// The value whose bundle of version 1 these bytes are. If they are not one, the first fault from the left,
 /// with its offset; or want of memory.
 ///
-/// The bytes are read once from the left, in time linear in the value that they claim to hold. The
-/// nodes that are open, at most 1,025, are kept in a list of their own, so hostile bytes cost no
-/// stack. The format is this project's own.
+/// The bytes are read once from the left. A reader of some three kilobytes holds the head that comes and
+/// a number for each open node, so hostile bytes cost no stack; the nodes that are open, at most 1,025,
+/// are kept in a list beside it. The value takes about a kilobyte for each of its nodes: bytes that are
+/// pairs of pairs take the most, up to 262,143 nodes before the value is whole or a fault is met.
 pub fn decode(alloc: Global, bytes: &[u8]) -> Result<Value, DecodeError>
     // What is read is spelled so.
     ensures value { IfOk result (λ value. IsBundleOf bytes.now (evidence value)) }
     // What is spelled so is read, unless memory runs out.
     ensures only { (value : Evidence) → IsBundleOf bytes.now value → Decodes evidence result (Ok value) }
     // Which fault it is.
-    ensures first { Decodes evidence result (read_bundle bytes.now) }
+    ensures first { IfErr result (λ error. Names error (first_fault bytes.now)) }
 {
-    read_bundle(alloc, bytes)
+    match read(alloc, false, bytes) {
+        Ok(whole) => Ok(whole.value),
+        Err(error) => Err(error),
+    }
+}
+
+/// The same for a bundle of version 1 or of version 2, with the marks.
+pub fn decode_any(alloc: Global, bytes: &[u8]) -> Result<Decoded, DecodeError>
+    // What is read is spelled so.
+    ensures value { IfOk result (λ found. IsEitherBundleOf bytes.now (evidence found.value) found.marks) }
+    // What is spelled so is read, unless memory runs out.
+    ensures only { (value : Evidence) (marks : Option (List ℕ)) → IsEitherBundleOf bytes.now value marks →
+        DecodesTo value marks (λ found. evidence found.value) (λ found. found.marks) result }
+    // Which fault it is.
+    ensures first { IfErr result (λ error. Names error (first_fault_of_either bytes.now)) }
+{
+    match read(alloc, true, bytes) {
+        Ok(whole) => Ok(with_marks(whole)),
+        Err(error) => Err(error),
+    }
+}
+
+fn with_marks(whole: Whole) -> Decoded
+    ensures { (either : Bool) (bytes : List ℕ) → IsRead either bytes whole.version (evidence whole.value) whole.marks.items →
+        IsEitherBundleOf bytes (evidence result.value) result.marks }
+{
+    let Whole {
+        version,
+        value,
+        marks,
+    } = whole;
+    match version {
+        Version::Plain => Decoded { value, marks: None },
+        Version::Marked => Decoded {
+            value,
+            marks: Some(Bytes::of(marks)),
+        },
+    }
 }

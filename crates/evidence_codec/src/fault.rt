@@ -45,3 +45,12 @@ pub enum DecodeError {
     Bad { at: u32, kind: BadKind },
     NoMemory,
 }
+
+/// Why no head stands at the front of bytes.
+#[derive(Clone, Copy, Debug, PartialEq, Eq)]
+pub enum Stop {
+    /// Another byte is wanted behind them.
+    Wanting,
+    /// There is a fault, so many bytes behind the first one.
+    Faulty(u32, BadKind),
+}

@@ -1,13 +1,21 @@
 ghost use Rattle.std.specs.Prelude.{◌≡◌, ◌∷◌, ◌++◌, [], IfOk};
+ghost use Rattle.evidence_types.specs.Answer.{FitsAnswer};
 ghost use Rattle.evidence_types.specs.Evidence.{evidence};
-ghost use Rattle.evidence_codec.specs.Reading.{wrapped, paired};
-ghost use Rattle.evidence_codec.specs.Opening.{filled, Closes, Takes};
-ghost use Rattle.evidence_codec.specs.Decoding.{over_of, head_of, open_of, opens_of, filled_of, whole_of};
+ghost use Rattle.evidence_types.specs.Heads.{IsHead, head_of};
+ghost use Rattle.evidence_codec.specs.Building.{wrapped, paired, filled, Closes, Opens, Takes};
+ghost use Rattle.evidence_codec.specs.Decoding.{over_of, open_of, opens_of, filled_of, whole_of};
 
-use crate::head::{Head, Over};
-use evidence_types::Value;
+use evidence_types::{Answer, Head, Value};
 use phrase_tree::NoMemory;
 use std::alloc::Global;
+
+/// A node with one part, without the part.
+#[derive(Debug, Drop)]
+pub enum Over {
+    Usm(u32, Answer),
+    Kim(u32, Answer),
+    Seal(u32, [u8; 32]),
+}
 
 /// A node whose parts are not all read yet.
 #[derive(Debug, Drop)]
@@ -109,20 +117,46 @@ fn close(alloc: Global, nodes: &mut Vec<Open>, value: Value) -> Result<Option<Va
     Ok(Some(whole))
 }
 
+fn begin(nodes: &mut Vec<Open>, node: Open) -> Result<Option<Value>, NoMemory>
+    ensures { IfOk result (λ all. Opens (opens_of nodes.old.items) (open_of node) (opens_of nodes.new.items) (whole_of all)) }
+{
+    match push(nodes, node) {
+        Ok(()) => Ok(None),
+        Err(_) => Err(NoMemory),
+    }
+}
+
+fn answer_of(bytes: &[u8]) -> Answer
+    requires { FitsAnswer bytes.now }
+    ensures { result ≡ bytes.now }
+{
+    Answer::of(bytes).unwrap()
+}
+
 /// Opens the node of this head, or closes what it makes whole. All is read once no node is open any
 /// more.
-pub fn take(alloc: Global, nodes: &mut Vec<Open>, head: Head) -> Result<Option<Value>, NoMemory>
-    ensures { IfOk result (λ all. Takes (opens_of nodes.old.items) (head_of head) (opens_of nodes.new.items) (whole_of all)) }
+pub fn take(
+    alloc: Global,
+    nodes: &mut Vec<Open>,
+    head: &Head<'_>,
+) -> Result<Option<Value>, NoMemory>
+    requires { IsHead (head_of head.now) }
+    ensures { IfOk result (λ all. Takes (opens_of nodes.old.items) (head_of head.now) (opens_of nodes.new.items) (whole_of all)) }
 {
     match head {
-        Head::Whole(value) => close(alloc, nodes, value),
-        Head::Under(over) => {
-            push(nodes, Open::Under(over))?;
-            Ok(None)
-        }
-        Head::Pair(parallel) => {
-            push(nodes, Open::Left(parallel))?;
-            Ok(None)
-        }
+        Head::Empty => close(alloc, nodes, Value::Empty),
+        Head::Nonce(nonce) => close(alloc, nodes, Value::Nonce(**nonce)),
+        Head::Usm(event, _, answer) => begin(
+            nodes,
+            Open::Under(Over::Usm(*event, answer_of(answer))),
+        ),
+        Head::Kim(event, _, answer) => begin(
+            nodes,
+            Open::Under(Over::Kim(*event, answer_of(answer))),
+        ),
+        Head::Seal(event, seal) => begin(nodes, Open::Under(Over::Seal(*event, **seal))),
+        Head::Hash(event, hash) => close(alloc, nodes, Value::Hash(*event, **hash)),
+        Head::SeqPair => begin(nodes, Open::Left(false)),
+        Head::ParPair => begin(nodes, Open::Left(true)),
     }
 }

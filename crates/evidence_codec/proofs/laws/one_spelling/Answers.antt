@@ -1,4 +1,4 @@
-use Rattle.evidence_codec.proofs.ValueLemmas.{one_spelling}
+use Rattle.evidence_codec.proofs.LawLemmas.{one_spelling}
 use Rattle.evidence_codec.proofs.laws.one_spelling.Goals as goal
 
 pub returns : goal.returns

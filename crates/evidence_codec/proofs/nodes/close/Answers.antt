@@ -1,9 +1,9 @@
 -- The nodes that were open are those that are left and the one that was taken out.
-use Rattle.std.proofs.Common.{◌≡◌, ◌∷◌, ◌++◌, [], sym, arith}
+use Rattle.std.proofs.Common.{◌≡◌, ◌∷◌, ◌++◌, ◌∙◌, [], sym, append-nil, arith}
 use Rattle.std.proofs.lemmas.List.{map_push, nil_from_length}
 use Rattle.evidence_types.specs.Evidence.{evidence}
 use Rattle.evidence_codec.specs.Decoding.{open_of, opens_of}
-use Rattle.evidence_codec.proofs.OpeningLemmas.{same-closed, same-waiting, same-all}
+use Rattle.evidence_codec.proofs.BuildLemmas.{same-closed, same-waiting, same-all}
 use Rattle.evidence_codec.proofs.nodes.close.Goals as goal
 
 pub loop-node-preserved : goal.loop-node-preserved
@@ -23,5 +23,6 @@ returns-in-Ok-Waiting c =
 pub returns : goal.returns
 returns c =
     let none : c.loop-node.nodes.items ≡ [] = nil_from_length c.loop-node.nodes.items (omega (arith, c.in_default.ensures.cases.0)) in
+    let left : c.pop.new.self.items ≡ [] = sym (append-nil c.pop.new.self.items) ∙ sym c.in_default.ensures.items ∙ none in
     let kept = rw none at c.loop-node.invariant in
-    same-all (opens_of c.args.nodes.now.items) (evidence c.args.value) (evidence c.loop-node.whole) kept
+    rw left (same-all (opens_of c.args.nodes.now.items) (evidence c.args.value) (evidence c.loop-node.whole) kept)

@@ -1,8 +1,8 @@
--- Reading comes to the same with the nodes that are still open and the value that is whole now.
+-- The open nodes come to the same with those that are still open and the value that is whole now.
 use Rattle.std.proofs.Common.{length}
 use Rattle.evidence_types.specs.Evidence.{evidence}
 use Rattle.evidence_codec.specs.Decoding.{opens_of}
-use Rattle.evidence_codec.proofs.OpeningLemmas.{Same}
+use Rattle.evidence_codec.proofs.BuildLemmas.{Same}
 use Rattle.evidence_codec.proofs.nodes.close.Given as goal
 
 abbrev pub invariant-loop-node : goal.invariant-loop-node
