@@ -12,7 +12,7 @@ use Rattle.session_runs.specs.Configuration.{Configuration, asked, finished, mea
 use Rattle.session_runs.specs.Moves.{answer, answers, Moved, inside, inner_moves}
 use Rattle.session_runs.specs.Standing.{Block, of}
 use Rattle.session_tables.specs.Left.{code_left, held, stack_left, Left, left_of}
-use Rattle.session_tables.specs.NextFits.{Measures}
+use Rattle.machine_tables.specs.Allowed.{Measures}
 use Rattle.session_tables.specs.Found.{View, unseen, asks_for, runs, block_view, found}
 use Rattle.session_tables.proofs.Fitting.{Fits, if_other, if_same}
 use Rattle.session_tables.proofs.Frames.{Same, Spot, spot, Around, Own, Cross}

@@ -1,7 +1,7 @@
 -- A block that runs below, in its whole: its moves are moves of the whole, and change what is said of itself and of the
 -- numbers inside it alone.
 use Rattle.std.proofs.Common.{◌≡◌, ℕ, ◌+◌, ◌≤◌, ◌<◌, inl, inr, List, refl, sym, ◌∙◌, ap, subst, arith}
-use Rattle.std.specs.Prelude.{Bool, true, false, not, None, Some, if◌then◌else◌}
+use Rattle.std.specs.Prelude.{Bool, true, false, not, None, Some}
 use Rattle.phrase_tree.specs.Term.{Term}
 use Rattle.phrase_tree.specs.Numbering.{event_count}
 use Rattle.evidence_types.specs.Evidence.{Evidence}

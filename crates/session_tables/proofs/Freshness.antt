@@ -183,7 +183,7 @@ module _ (all : List CodeBlock) (pass : ℕ) where
       ended_fresh (of m) true u g runs_on = changed_fresh u (after_end (of m) true result u) g (of m) true after (over result) runs_on (λ other. refl) (λ n. omega arith) (λ place. refl)
       ended_fresh (of m) false u g runs_on = changed_fresh u (after_end (of m) false result u) g (of m) false after (over result) runs_on (λ other. refl) (λ n. omega arith) (λ place. refl)
 
-  change_trace : (u : Tables) (name : Block) (flag : Bool) (change : Change) → (after_change all pass name flag change u).trace ≡ u.trace
+  pub change_trace : (u : Tables) (name : Block) (flag : Bool) (change : Change) → (after_change all pass name flag change u).trace ≡ u.trace
   change_trace u name flag nothing = refl
   change_trace u name flag (posts place n before) = refl
   change_trace u name flag (forks n before) = refl

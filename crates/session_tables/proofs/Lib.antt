@@ -1,6 +1,8 @@
 mod WorkedBlocks
 mod WorkedQuestions
 mod WorkedFits
+mod WorkedTakes
+mod WorkedPlays
 pub mod Starting
 pub mod Fitting
 pub mod Deeds
@@ -21,3 +23,11 @@ pub mod TouchBlocks
 pub mod Questions
 pub mod OwnCode
 pub mod Touching
+pub mod Playing
+pub mod Allowances
+pub mod Taking
+pub mod Results
+pub mod OwnEvents
+pub mod OwnQuestions
+pub mod Ending
+pub mod Counting

@@ -1,6 +1,6 @@
 -- What holds of each instruction of each block's code holds of what is left of it in the tables, after every
 -- history; and measurements stand in the block that owns their event.
-use Rattle.std.proofs.Common.{◌≡◌, ℕ, ◌+◌, List, [], ◌∷◌, ◌++◌, cond, refl, sym, ◌∙◌, ap, subst, arith}
+use Rattle.std.proofs.Common.{◌≡◌, ℕ, ◌+◌, List, [], ◌∷◌, cond, refl, ap, subst}
 use Rattle.std.specs.Prelude.{Bool, true, false, Option, None, Some, drop, nat_eq, if◌then◌else◌}
 use Rattle.std.specs.List.{AllByRecursion}
 use Rattle.std.proofs.lemmas.Bool.{eqb-true}
@@ -15,11 +15,11 @@ use Rattle.avm_code.specs.declared.instr.Instr.TheVariants.{Copy, Usm, Kim, Sign
 use Rattle.avm_code.specs.declared.program.Block.{Block as CodeBlock}
 use Rattle.avm_code.specs.Blocks.{is_named, blocks_named}
 use Rattle.avm_code.specs.Order.{first_code, code_called, place_called}
-use Rattle.avm_compile.specs.Program.{last_of_branch, leaf_instr, code_of, whole_code, blocks_of, program_of}
+use Rattle.avm_compile.specs.Program.{last_of_branch, leaf_instr, code_of, blocks_of, program_of}
 use Rattle.avm_compile.proofs.EndLaws.{both}
 use Rattle.machine_tables.specs.Row.{Setting, Local, row, replied as replied_machine, joined, answered}
-use Rattle.machine_tables.specs.Tables.{BlockState, not_started, running, over, Tables, put_block, put_place, block_name, started, Change, nothing, posts, forks, takes, joins, lifts, ends, Acted, result_of, is_asked, acts, acts_unless, acts_with, act_on, act_with, act, after_end, after_change, after_machine, after_step, step_in, deliver_first, by_asker, answer_at, answer_in, stop_tables, enter_tables, tables_while, step_tables, opening_tables, tables_further, tables_after}
-use Rattle.session_runs.specs.Moves.{Step, run as run_step, ask as ask_step, Effect, silent, happens, sends, asks}
+use Rattle.machine_tables.specs.Tables.{BlockState, not_started, running, over, Tables, put_block, block_name, started, Change, nothing, posts, forks, takes, joins, lifts, ends, Acted, result_of, is_asked, acts, acts_unless, acts_with, act_on, act_with, act, after_end, after_change, after_machine, after_step, step_in, deliver_first, by_asker, answer_at, answer_in, stop_tables, enter_tables, step_tables, opening_tables, tables_further, tables_after}
+use Rattle.session_runs.specs.Moves.{Step, run as run_step, ask as ask_step, Effect, happens, asks}
 use Rattle.session_runs.specs.Standing.{Block, root, of, run, ask, deliver, Entry, opened, played, answered as was_answered, failed, starved, State, has_failed, has_starved}
 use Rattle.session_runs.proofs.OwnerLaws.{OwnsPhrase}
 use Rattle.session_tables.specs.Touched.{named}

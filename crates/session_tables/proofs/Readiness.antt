@@ -1,6 +1,6 @@
 -- What is ready by the configuration is ready by the next instructions.
 use Rattle.std.proofs.Common.{◌≡◌, ℕ, ◌≤◌, inl, inr, List, [], ◌∷◌, refl, sym, ◌∙◌, ap, subst}
-use Rattle.std.specs.Prelude.{Bool, true, false, Option, None, Some, if◌then◌else◌, Contains, ◌↔◌}
+use Rattle.std.specs.Prelude.{Bool, true, false, Option, None, Some, Contains, ◌↔◌}
 use Rattle.phrase_tree.specs.Numbering.{event_count}
 use Rattle.evidence_types.specs.Evidence.{Evidence}
 use Rattle.session_model.specs.Session.{Session}
@@ -109,7 +109,7 @@ acted_in setting t step not_started = None
 acted_in setting t step (running flag l) = acted_event (act setting t step l)
 acted_in setting t step (over result) = None
 
-state_next : (setting : Setting) (t : Tables) (step : Step) (state : BlockState) → acted_in setting t step state ≡ event_by step (next_at t state)
+pub state_next : (setting : Setting) (t : Tables) (step : Step) (state : BlockState) → acted_in setting t step state ≡ event_by step (next_at t state)
 state_next setting t step not_started = refl
 state_next setting t step (running flag l) = code_next setting t step l l.rest
 state_next setting t step (over result) = refl
@@ -117,7 +117,7 @@ state_next setting t step (over result) = refl
 inner_is : (a b : Option ℕ) → ◌≡◌ {A = Option (Option ℕ)} (Some a) (Some b) → a ≡ b
 inner_is a b e = cc
 
-event_next : (step : Step) (x : Next) (event : Option ℕ) → event_by step x ≡ Some event → x ≡ Some (step, event)
+pub event_next : (step : Step) (x : Next) (event : Option ℕ) → event_by step x ≡ Some event → x ≡ Some (step, event)
 event_next step None event e = absurd (cc)
 event_next step (Some next) event e = by_steps next.0 step next.1 e
   where
@@ -127,7 +127,7 @@ event_next step (Some next) event e = by_steps next.0 step next.1 e
     by_steps ask_step run_step other h = absurd (cc)
     by_steps ask_step ask_step other h = ap (λ (o : Option ℕ). next_to ask_step o) (inner_is other event h)
 
-next_event : (step : Step) (x : Next) (event : Option ℕ) → x ≡ Some (step, event) → event_by step x ≡ Some event
+pub next_event : (step : Step) (x : Next) (event : Option ℕ) → x ≡ Some (step, event) → event_by step x ≡ Some event
 next_event step x event e = ap (λ y. event_by step y) e ∙ itself step
   where
     itself : (step : Step) → event_if step step event ≡ Some event

@@ -1,12 +1,10 @@
 -- What an entry changes of the tables, and that no other block reads it.
-use Rattle.std.proofs.Common.{◌≡◌, ℕ, ◌⊎◌, inl, inr, List, [], ◌∷◌, ◌++◌, refl, sym, ◌∙◌, ap, subst}
+use Rattle.std.proofs.Common.{◌≡◌, ℕ, inl, inr, List, [], ◌∷◌, ◌++◌, refl, sym, ◌∙◌, ap, subst}
 use Rattle.std.specs.Prelude.{Bool, true, false, Option, None, Some, drop, nat_eq, ◌||◌, if◌then◌else◌}
 use Rattle.std.specs.Cmp.Lexicographic.{pointwise}
 use Rattle.evidence_types.specs.Evidence.{Evidence, nonce}
 use Rattle.session_model.specs.Session.{Session}
 use Rattle.session_model.specs.Value.{Makings}
-use Rattle.avm_code.specs.declared.instr.BlockName.{BlockName}
-use Rattle.avm_code.specs.declared.instr.BlockName.TheVariants.{Root, Of}
 use Rattle.avm_code.specs.declared.instr.Instr.{Instr}
 use Rattle.avm_code.specs.declared.instr.Instr.TheVariants.{Copy, Usm, Kim, Sign, Hash, Null, Split, Swap, JoinSeq, Send, Recv, Fork, JoinPar, End}
 use Rattle.avm_code.specs.declared.program.Block.{Block as CodeBlock}
@@ -15,19 +13,20 @@ use Rattle.avm_code.specs.Order.{place_called}
 use Rattle.avm_compile.specs.Program.{program_of}
 use Rattle.avm_compile.proofs.WaitLaws.{waiting_blocks_are_known}
 use Rattle.machine_tables.specs.Row.{Setting, Local, row, replied as replied_machine, joined, answered}
-use Rattle.machine_tables.specs.Tables.{BlockState, not_started, running, over, Tables, same_name, put_block, put_place, block_name, started, Change, nothing, posts, forks, takes, joins, lifts, ends, Acted, result_of, is_asked, acts, acts_unless, acts_with, act_on, act_with, act, after_end, after_change, after_machine, after_step, step_in, deliver_first, by_asker, answer_at, answer_in, stop_tables, enter_tables, tables_while, step_tables, tables_after, Next, next_unless, next_with, next_by, next_in, next_at, next_of}
-use Rattle.session_runs.specs.Moves.{Step, run as run_step, ask as ask_step, Effect, silent, happens, sends, asks}
+use Rattle.machine_tables.specs.Tables.{BlockState, not_started, running, over, Tables, same_name, put_block, block_name, started, Change, nothing, posts, forks, takes, joins, lifts, ends, Acted, result_of, is_asked, acts, acts_unless, acts_with, act_on, act_with, act, after_end, after_change, after_machine, after_step, step_in, deliver_first, by_asker, answer_at, answer_in, stop_tables, enter_tables, step_tables, tables_after, Next, next_unless, next_with, next_by, next_in, next_at, next_of}
+use Rattle.session_runs.specs.Moves.{Step, run as run_step, ask as ask_step, Effect, happens, sends, asks}
 use Rattle.session_runs.specs.Owner.{owner}
-use Rattle.session_runs.specs.Standing.{Block, root, of, run, ask, deliver, Entry, opened, played, answered as was_answered, failed, starved, State, is_open, is_done, has_failed, has_starved, Standing, makings}
+use Rattle.session_runs.specs.Standing.{Block, root, of, run, ask, deliver, Entry, opened, played, answered as was_answered, failed, starved, State, is_open, has_failed, has_starved, Standing, makings}
 use Rattle.session_runs.specs.History.{standing_after}
 use Rattle.session_runs.proofs.OwnerLaws.{owner_owns}
-use Rattle.session_tables.specs.NextFits.{Measures as MeasuresEvent, FirstMeasures, IsAsking}
-use Rattle.session_tables.specs.Shown.{IsShown, AreShown}
-use Rattle.session_tables.specs.Touched.{named, waiting_block, touched_by, touched_in, touched_at, first_block, asking_block, touched, changed_at, any_waits, sends_to, sends_in, sends_at, waits_after}
+use Rattle.machine_tables.specs.Allowed.{Measures as MeasuresEvent}
+use Rattle.session_tables.specs.NextFits.{FirstMeasures, IsAsking}
+use Rattle.session_tables.specs.Shown.{AreShown}
+use Rattle.session_tables.specs.Touched.{named, waiting_block, touched_in, touched_at, first_block, asking_block, touched, changed_at, any_waits, sends_in, sends_at, waits_after}
 use Rattle.std.specs.List.{AllByRecursion}
 use Rattle.std.proofs.lemmas.Bool.{eq-eqb}
 use Rattle.session_tables.proofs.Lists.{if_true, if_false, either_way}
-use Rattle.session_tables.proofs.Steps.{names, put_block_law, put_at_law}
+use Rattle.session_tables.proofs.Steps.{put_block_law, put_at_law}
 use Rattle.session_tables.proofs.Freshness.{Agrees, some_acted, some_tables, while_is, put_other, code_agrees, delivery_fresh, fork_fresh}
 use Rattle.session_tables.proofs.Entries.{history_shown}
 use Rattle.session_tables.proofs.LightBlocks.{asking_shown}
@@ -35,7 +34,7 @@ use Rattle.session_tables.proofs.OwnCode.{Measures, program_measures, program_ha
 
 -- ---- names
 
-named_name : (name : Block) → named (block_name name) ≡ name
+pub named_name : (name : Block) → named (block_name name) ≡ name
 named_name root = refl
 named_name (of n) = refl
 
@@ -283,7 +282,7 @@ module _ (session : Session) (keys : List (List ℕ × List ℕ)) (history : Lis
   abbrev F : ℕ → Option Block
   F n = owner session.phrase root 0 n
 
-  measures : (name : Block) → CodeHas (Measures F) name (t.blocks name)
+  pub measures : (name : Block) → CodeHas (Measures F) name (t.blocks name)
   measures = history_kept all from (Measures F) (program_has (Measures F) session.phrase session.root (program_measures F session.phrase session.root (owner_owns session.phrase root 0 F (λ n least below. refl)))) (nonce session.nonce) history t after
 
   waits : (name : Block) → CodeHas (WaitsAs all) name (t.blocks name)
@@ -345,7 +344,7 @@ module _ (session : Session) (keys : List (List ℕ × List ℕ)) (history : Lis
   measured_owner n name (JoinPar j i) h m = absurd h
   measured_owner n name End h m = absurd h
 
-  asker_owner : (n : ℕ) (name : Block) (state : BlockState) → IsAsking n state → CodeHas (Measures F) name state → F n ≡ Some (named (block_name name))
+  pub asker_owner : (n : ℕ) (name : Block) (state : BlockState) → IsAsking n state → CodeHas (Measures F) name state → F n ≡ Some (named (block_name name))
   asker_owner n name not_started h m = absurd h
   asker_owner n name (running flag l) h m = by_code l.rest h m
     where

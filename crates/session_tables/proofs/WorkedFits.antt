@@ -6,14 +6,16 @@ use Rattle.evidence_types.specs.Answer.{FitsAnswer}
 use Rattle.evidence_types.specs.Bytes.{FitsBundle}
 use Rattle.evidence_types.specs.Evidence.{Evidence, usm as measured, par_pair}
 use Rattle.avm_code.specs.declared.instr.Instr.TheVariants.{Usm, Sign, JoinPar, Send, Recv, End}
-use Rattle.machine_tables.specs.Row.{Local}
-use Rattle.machine_tables.specs.Tables.{Tables, result_of}
+use Rattle.machine_tables.specs.Row.{Setting, Local}
+use Rattle.machine_tables.specs.Tables.{Tables, Change, ends, Acted, result_of}
+use Rattle.session_runs.specs.Moves.{Effect, silent}
 use Rattle.session_runs.specs.Standing.{root, of}
 use Rattle.session_runs.specs.Touches.{touches_nothing, sends_request, sends_reply, needs_reply}
-use Rattle.session_tables.specs.NextFits.{JoinFits, PairFits, AnswerFits, Measures}
+use Rattle.machine_tables.specs.Allowed.{Measures}
+use Rattle.session_tables.specs.NextFits.{JoinFits, PairFits, AnswerFits, AfterFits}
 use Rattle.session_tables.specs.TouchedAt.{touched_so, touched_at}
 
-module _ (tables : Tables) (local : Local) (asp : Asp) (place : List ℕ) (v w : Evidence) where
+module _ (setting : Setting) (tables : Tables) (local : Local) (asp : Asp) (place : List ℕ) (v w : Evidence) where
   a_join : PairFits tables (JoinPar 5 2) local ≡ JoinFits local.evidence (result_of (tables.blocks (of 2)))
   a_join = refl
 
@@ -22,6 +24,9 @@ module _ (tables : Tables) (local : Local) (asp : Asp) (place : List ℕ) (v w :
 
   an_answer : AnswerFits (Usm 5 asp) local ≡ ((bytes : List ℕ) → FitsAnswer bytes → FitsBundle (measured 5 bytes local.evidence))
   an_answer = refl
+
+  an_end : AfterFits setting tables End local ≡ ((effect : Effect) (change : Change) (after : Local) → ◌≡◌ {A = Acted} (Some (silent, ends local.evidence, local)) (Some (effect, change, after)) → FitsBundle after.evidence)
+  an_end = refl
 
   its_event : Measures 5 (Usm 4 asp) ≡ (◌≡◌ {A = ℕ} 4 5)
   its_event = refl

@@ -1,6 +1,8 @@
 pub mod Left
 pub mod Found
 pub mod Shown
+pub mod Played
+pub mod Takes
 pub mod Agenda
 pub mod NextFits
 pub mod TouchedAt

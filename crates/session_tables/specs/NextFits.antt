@@ -5,8 +5,10 @@ use Rattle.evidence_types.specs.Bytes.{FitsBundle}
 use Rattle.evidence_types.specs.Evidence.{Evidence, par_pair}
 use Rattle.avm_code.specs.declared.instr.Instr.{Instr}
 use Rattle.avm_code.specs.declared.instr.Instr.TheVariants.{Usm, Kim, JoinPar}
-use Rattle.machine_tables.specs.Row.{Setting, Local, measured, NewFits}
-use Rattle.machine_tables.specs.Tables.{BlockState, not_started, running, over, Tables, result_of}
+use Rattle.machine_tables.specs.Row.{Setting, Local, row, measured, NewFits}
+use Rattle.machine_tables.specs.Tables.{BlockState, not_started, running, over, Tables, Change, result_of, act_on}
+use Rattle.machine_tables.specs.Allowed.{Measures}
+use Rattle.session_runs.specs.Moves.{run as run_step, Effect}
 use Rattle.session_runs.specs.Standing.{of}
 
 -- the two results of a parallel branch, where the second is there, and the pair of them
@@ -27,18 +29,19 @@ AnswerFits (Kim event target asp) local =
     (bytes : List ℕ) → FitsAnswer bytes → FitsBundle (measured (Kim event target asp) bytes local.evidence)
 AnswerFits _ local = Unit {0}
 
--- what an instruction makes, by itself, of the result of a block, and of an answer
+-- what a machine holds after an instruction, where it can run on
+abbrev pub AfterFits : Setting → Tables → Instr → Local → Type 0
+AfterFits setting tables instr local =
+    (effect : Effect) (change : Change) (after : Local) → act_on tables run_step local (row setting instr local).0 (row setting instr local).1 ≡ Some (effect, change, after) → FitsBundle after.evidence
+
+-- what an instruction makes, by itself, of the result of a block, and of an answer; and what is held after it
 pub record NextFits (setting : Setting) (tables : Tables) (instr : Instr) (local : Local) : Type 0 where
   pub made : NewFits setting instr local
   pub pair : PairFits tables instr local
   pub answer : AnswerFits instr local
+  pub after : AfterFits setting tables instr local
 
--- an instruction is the measurement of this event
-abbrev pub Measures : ℕ → Instr → Type 0
-Measures event (Usm i asp) = i ≡ event
-Measures event (Kim i target asp) = i ≡ event
-Measures event _ = ⊥
-
+-- the first instruction is the measurement of this event
 abbrev pub FirstMeasures : ℕ → List Instr → Type 0
 FirstMeasures event [] = ⊥
 FirstMeasures event (instr ∷ rest) = Measures event instr

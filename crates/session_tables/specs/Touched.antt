@@ -1,6 +1,6 @@
 -- Which blocks an entry of a history touches, so that all others can do next what they could before; and at
 -- which places requests then wait (this project's own).
-use Rattle.std.specs.Prelude.{◌≡◌, ℕ, Bool, true, false, List, [], ◌∷◌, Option, None, Some, drop, nat_eq, ◌||◌, if◌then◌else◌}
+use Rattle.std.specs.Prelude.{ℕ, Bool, true, false, List, [], ◌∷◌, Option, None, Some, drop, nat_eq, ◌||◌, if◌then◌else◌}
 use Rattle.std.specs.Cmp.Lexicographic.{pointwise}
 use Rattle.evidence_types.specs.Evidence.{Evidence}
 use Rattle.avm_code.specs.declared.instr.BlockName.{BlockName}
@@ -9,7 +9,7 @@ use Rattle.avm_code.specs.declared.instr.Instr.{Instr}
 use Rattle.avm_code.specs.declared.instr.Instr.TheVariants.{Send, Fork, End}
 use Rattle.avm_code.specs.declared.program.Block.{Block as CodeBlock}
 use Rattle.avm_code.specs.Blocks.{waiting_for}
-use Rattle.machine_tables.specs.Tables.{BlockState, not_started, running, over, Tables, Next, same_name, next_of}
+use Rattle.machine_tables.specs.Tables.{BlockState, not_started, running, over, Tables, Next, same_name}
 use Rattle.session_runs.specs.Standing.{Block, root, of, run, ask, deliver, Entry, opened, played, answered, failed, starved}
 
 -- the block of a name

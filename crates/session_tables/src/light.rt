@@ -16,8 +16,9 @@ ghost use Rattle.session_tables.specs.NextFits.{NextFits, IsAsking};
 
 /// The law of light blocks: while a session is open whose phrase is nowhere oversize, whose nonce has 16
 /// bytes and whose answers have at most 1,024, what the next instruction of each block makes fits a
-/// bundle. The block that waits for an answer runs, and its next instruction is the measurement; so what
-/// every answer of at most 1,024 bytes makes there fits a bundle.
+/// bundle, and what the block's machine holds after it does too. The block that waits for an answer runs,
+/// and its next instruction is the measurement; so what every answer of at most 1,024 bytes makes there
+/// fits a bundle.
 pub fn fits_law()
     ensures made { (session : Session) (keys : List (List ℕ × List ℕ)) (history : List Entry) (standing : Standing) (tables : Tables) (name : Block) (for_request : Bool) (local : Local) (instr : Instr) (rest : List Instr) →
         IsLight session.phrase →
