@@ -16,3 +16,4 @@ pub mod RunLemmas
 pub mod PlayLemmas
 pub mod EndLemmas
 pub mod OpenLemmas
+pub mod DoesLemmas

@@ -1,5 +1,5 @@
 -- What the small steps of a world do.
-use Rattle.std.specs.Prelude.{◌≡◌, ◌<◌, ℕ, Option, length, slice_index_or}
+use Rattle.std.specs.Prelude.{◌≡◌, ◌<◌, ℕ, List, Option, length, slice_index_or}
 use Rattle.session_runs.specs.Standing.{Block as Name}
 use Rattle.session_runs.specs.Moves.{run}
 use Rattle.avm_code.specs.declared.instr.BlockName.{BlockName}
@@ -7,14 +7,17 @@ use Rattle.avm_code.specs.declared.instr.BlockName.TheVariants.{Root, Of}
 use Rattle.avm_code.specs.Order.{HasBlock, IsAt}
 use Rattle.machine_tables.specs.Tables.{Tables, BlockState as Cell, put_block, act_on, after_step}
 use Rattle.avm_core.specs.declared.stepped.Stepped.{Stepped}
-use Rattle.avm_core.specs.declared.stepped.Stepped.TheVariants.{Sent, Forked, NeedsAnswer, NeedsReply, NeedsChild, Ended}
+use Rattle.avm_core.specs.declared.stepped.Stepped.TheVariants.{Event, Silent, Sent, Forked, NeedsAnswer, NeedsReply, NeedsChild, Ended}
 use Rattle.avm_core.specs.Machine.{local_of, next_of, AwaitsReply, AwaitsChild}
 use Rattle.avm_core.specs.Steps.{deed_of}
 use Rattle.branch_join.specs.declared.state.BlockState.TheVariants.{NotStarted, Running}
 use Rattle.branch_join.specs.Blocks.{state_of, result_of}
+use Rattle.machine_world.specs.declared.moved.Moved.{Moved}
+use Rattle.machine_world.specs.declared.moved.Moved.TheVariants.{Waits, Silent as Quiet, Happened, Sent as Posted, Forked as Started, Ended as Finished}
 use Rattle.machine_world.specs.declared.runner.Runner.{Runner}
 use Rattle.machine_world.specs.declared.world.World.{World}
-use Rattle.machine_world.specs.Seen.{IsBlock}
+use Rattle.machine_world.specs.Seen.{IsBlock, IsPlace}
+use Rattle.machine_world.specs.Does.{IfMoves}
 use Rattle.machine_world.specs.Cells.{Book, block_of, nobody, tables_of}
 use Rattle.machine_world.specs.World.{IsListed, JoinFits}
 
@@ -71,3 +74,14 @@ settled_tables world name runner stepped pass book =
 -- the machine of a block holds something else, and all else stays
 abbrev pub with_cell : Name → Cell → Tables → Tables
 with_cell name cell tables = record tables { blocks = put_block name cell tables.blocks }
+
+-- what a world answers for what a step of a machine asks of it, between these places
+abbrev pub SettlesAs : List (List ℕ) → Stepped → Moved → Type 0
+SettlesAs places (Event event) moved = moved ≡ Happened event
+SettlesAs places Silent moved = moved ≡ Quiet
+SettlesAs places (Sent event place id) moved = (index : ℕ) × IsPlace places place index × (moved ≡ Posted event index id)
+SettlesAs places (Forked number id) moved = moved ≡ Started number
+SettlesAs places (NeedsAnswer event) moved = moved ≡ Waits
+SettlesAs places (NeedsReply event number) moved = IfMoves moved (moved ≡ Happened event)
+SettlesAs places (NeedsChild event number) moved = IfMoves moved (moved ≡ Happened event)
+SettlesAs places (Ended id) moved = moved ≡ Finished id

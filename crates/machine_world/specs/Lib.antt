@@ -5,3 +5,4 @@ pub mod World
 pub mod Calls
 pub mod Answers
 pub mod Playable
+pub mod Does

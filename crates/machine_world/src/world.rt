@@ -18,7 +18,8 @@ ghost use Rattle.branch_join.specs.Blocks.{state_of, result_of};
 ghost use Rattle.machine_world.specs.Seen.{IsPlace};
 ghost use Rattle.machine_world.specs.Cells.{Book, block_of, tables_of, book_after, with_answer, opening_book, makings_of};
 ghost use Rattle.machine_world.specs.World.{CanPlay, IsCounted, IsWorld, IsWorldForSome, IsWorldAgain, IsListed, HasRoom, HasRoomFor};
-ghost use Rattle.machine_world.specs.Calls.{RunsAt, CanSettle, WaitsFor, requests_of, replies_of, runner_at, settled_tables, with_cell};
+ghost use Rattle.machine_world.specs.Calls.{RunsAt, CanSettle, SettlesAs, WaitsFor, requests_of, replies_of, runner_at, settled_tables, with_cell};
+ghost use Rattle.machine_world.specs.Does.{Does, IfMoves};
 ghost use Rattle.machine_world.specs.Answers.{IfWaits, IsUnchanged, SendsTo, IfSent, next_by_book, ask_of, first_number, IsStarted};
 
 use crate::moved::{Moved, Ready};
@@ -104,6 +105,7 @@ impl World {
             ≡ option_map (tables_of self.new) (book_after self.new.store.values name result book) }
         ensures waits { IfWaits result (IsUnchanged self.old self.new) }
         ensures sends { IfSent result (SendsTo self.old self.new) }
+        ensures does { IfMoves result (Does self.old.places.items result ((tables_of self.old opening_book).blocks (block_of name))) }
         ensures world { IsWorld keys.now self.new }
         ensures room { HasRoom self.new }
         ensures program { self.new.program ≡ self.old.program }
@@ -127,6 +129,7 @@ impl World {
             ≡ option_map (tables_of self.new) (book_after self.new.store.values name result book) }
         ensures waits { IfWaits result (IsUnchanged self.old self.new) }
         ensures sends { IfSent result (SendsTo self.old self.new) }
+        ensures does { IfMoves result (Does self.old.places.items result ((tables_of self.old opening_book).blocks (block_of name))) }
         ensures world { IsWorld keys.now self.new }
         ensures room { HasRoom self.new }
         ensures program { self.new.program ≡ self.old.program }
@@ -218,6 +221,13 @@ impl World {
     {
         let index = self.program.index_of(BlockName::Of(number));
         name_at(&self.waiters, index)
+    }
+
+    /// The places between which requests go, in their order.
+    pub fn places(&self) -> &[Place]
+        ensures { result.now ≡ self.now.places.items }
+    {
+        &self.places
     }
 
     /// The number of the first request that waits at a place, given by its index; none exactly if none
@@ -330,6 +340,7 @@ impl World {
             ≡ option_map (tables_of self.new) (book_after self.new.store.values name result book) }
         ensures waits { IfWaits result ((self.new ≡ self.old) × WaitsFor stepped) }
         ensures sends { IfSent result (SendsTo self.old self.new) }
+        ensures settles { SettlesAs self.old.places.items stepped result }
         ensures world { IsWorldAgain self.old self.new }
         ensures room { HasRoom self.new }
         ensures program { self.new.program ≡ self.old.program }
@@ -428,6 +439,7 @@ impl World {
             settled_tables self.old name (runner_at self.old index) (Stepped.NeedsReply event number) pass book
             ≡ option_map (tables_of self.new) (book_after self.new.store.values name result book) }
         ensures waits { IfWaits result (self.new ≡ self.old) }
+        ensures settles { IfMoves result (result ≡ Moved.Happened event) }
         ensures sends { IfSent result (SendsTo self.old self.new) }
         ensures world { IsWorldAgain self.old self.new }
         ensures room { HasRoom self.new }
@@ -453,6 +465,7 @@ impl World {
             settled_tables self.old name (runner_at self.old index) (Stepped.NeedsChild event number) pass book
             ≡ option_map (tables_of self.new) (book_after self.new.store.values name result book) }
         ensures waits { IfWaits result (self.new ≡ self.old) }
+        ensures settles { IfMoves result (result ≡ Moved.Happened event) }
         ensures sends { IfSent result (SendsTo self.old self.new) }
         ensures world { IsWorldAgain self.old self.new }
         ensures room { HasRoom self.new }

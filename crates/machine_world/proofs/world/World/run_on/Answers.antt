@@ -1,6 +1,10 @@
-use Rattle.std.proofs.Common.{◌≡◌, ◌∙◌}
+use Rattle.std.proofs.Common.{◌≡◌, ◌∙◌, ap, subst}
+use Rattle.machine_tables.specs.Row.{Local, Deed}
+use Rattle.avm_core.specs.Machine.{setting_of}
+use Rattle.machine_world.specs.declared.world.World.{World}
 use Rattle.machine_world.specs.Answers.{SendsTo, IsUnchanged}
-use Rattle.machine_world.specs.Calls.{WaitsFor}
+use Rattle.machine_world.specs.Calls.{WaitsFor, SettlesAs, runner_at}
+use Rattle.machine_world.proofs.DoesLemmas.{does-so}
 use Rattle.machine_world.proofs.MayLemmas.{may-fit, may-allow}
 use Rattle.machine_world.proofs.RunLemmas.{runs-at, its-name, its-stands, its-within, spare-enough, mid-is, mid-world, mid-runs, mid-can, mid-room, mid-unchanged, mid-sent, moves-whole, waits-map, sends-map}
 use Rattle.machine_world.proofs.world.World.run_on.Goals as goal
@@ -186,3 +190,20 @@ returns-clause-world c =
     let did = c.step_at-stepped.ensures in
     let is = mid-is old mid index did.rest did.runners in
     c.settle.ensures.world keys (mid-world keys nonce old name index at w named within mid stepped did.steps did.remote is did.stands)
+
+pub returns-clause-does : goal.returns-clause-does
+returns-clause-does c =
+    let old = c.args.self.now in
+    let keys = c.args.keys.now in
+    let name = c.args.name in
+    let index = c.index_of-index.result in
+    let w = c.requires.world in
+    let at = runs-at keys old name index w c.requires.running c.index_of-index.ensures in
+    let within = its-within keys old name index w at in
+    let stepped = c.step_at-stepped.result in
+    let mid = c.step_at-stepped.new.self in
+    let did = c.step_at-stepped.ensures in
+    let machine = (runner_at old index).machine in
+    does-so (setting_of old.program keys c.args.nonce.now machine.name) old name index at within mid.store.values stepped c.settle.result
+    (ap (λ (p : Deed × Local). p.0) did.steps.made)
+    (subst (λ (w : World). SettlesAs w.places.items stepped c.settle.result) did.rest c.settle.ensures.settles)

@@ -6,7 +6,7 @@ use Rattle.avm_core.specs.declared.stepped.Stepped.{Stepped}
 use Rattle.machine_world.specs.declared.moved.Moved.{Moved}
 use Rattle.machine_world.specs.declared.world.World.{World}
 use Rattle.machine_world.specs.Cells.{tables_of, book_after, with_event, with_end}
-use Rattle.machine_world.specs.Calls.{CanSettle, runner_at, settled_tables}
+use Rattle.machine_world.specs.Calls.{CanSettle, SettlesAs, runner_at, settled_tables}
 use Rattle.machine_world.specs.Answers.{IfSent, SendsTo}
 use Rattle.machine_world.proofs.MoveLemmas.{moves-event, moves-silent, moves-sent, moves-forked, moves-ended, end-booked}
 use Rattle.machine_world.proofs.RunLemmas.{sent-to}
@@ -65,3 +65,8 @@ returns-in-Ended-clause-moves c = λ book pass opened.
     ∙ moves-ended world name index c.requires.at pass book c.in-Ended.result
     ∙ ap (λ (t : Tables). Some t) (sym (c.finish.ensures.tables (with_end world.store.values name c.in-Ended.result book) ∙ end-booked name (runner_at world index).remote world.store.values c.in-Ended.result world book))
     ∙ ap (λ (v : List Evidence). Some (tables_of c.finish.new.self (with_end v name c.in-Ended.result book))) (sym (ap (λ (w : World). w.store.values) c.finish.ensures.rest))
+
+pub returns-in-Sent-clause-settles : goal.returns-in-Sent-clause-settles
+returns-in-Sent-clause-settles c =
+    subst (λ (s : Stepped). SettlesAs c.args.self.now.places.items s c.send.result) (sym c.in-Sent.is)
+    (c.send.ensures.moved.0, c.send.ensures.moved.1.0, c.send.ensures.moved.1.1)
