@@ -1,3 +1,9 @@
 pub mod Indexed
 pub mod Keeping
 pub mod Listing
+pub mod Following
+pub mod Membership
+pub mod Updating
+pub mod Bounds
+pub mod Telling
+pub mod TestRuns

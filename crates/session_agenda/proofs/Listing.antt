@@ -43,7 +43,7 @@ among_find first (y ∷ ys) x rises (inr h) =
 some_mover : (a b : Mover) → ◌≡◌ {A = Option Mover} (Some a) (Some b) → a ≡ b
 some_mover a b e = cc
 
-find_among : (k : ℕ) (m : Mover) (xs : List (ℕ × Mover)) → find k xs ≡ Some m → IsAmong xs (k, m)
+pub find_among : (k : ℕ) (m : Mover) (xs : List (ℕ × Mover)) → find k xs ≡ Some m → IsAmong xs (k, m)
 find_among k m [] e = absurd (cc)
 find_among k m (y ∷ ys) e = elim (cases_eq y.0 k) [
   | inl is ↦ inl (ap (λ (n : ℕ). entry_at n y.1) is ∙ ap (λ (z : Mover). entry_at k z) (some_mover y.1 m (sym (if_same (Option Mover) y.0 k (Some y.1) (find k ys) is) ∙ e)))
@@ -93,7 +93,7 @@ abbrev ready_with : Block → Step → Option ℕ → Ready
 ready_with block step event = record { block = block; step = step; event = event }
 
 module _ (agenda : Agenda) (key : BlockName → Task → Option ℕ) (index : List (ℕ × Mover)) (rises : RisesFrom 0 index) (indexed : Indexes key agenda.blocks.entries index) where
-  entry_found : (x : ℕ × Mover) → IsAmong index x → (find (rank_by x.1.name) agenda.blocks.entries ≡ Some x.1.task) × (key x.1.name x.1.task ≡ Some x.0)
+  pub entry_found : (x : ℕ × Mover) → IsAmong index x → (find (rank_by x.1.name) agenda.blocks.entries ≡ Some x.1.task) × (key x.1.name x.1.task ≡ Some x.0)
   entry_found x h = (indexed x.0 x.1).0 (among_find 0 index x rises h)
 
   -- they rise, if each is listed by its key

@@ -34,6 +34,17 @@ abbrev pub next_of_task : Option Task → Next
 next_of_task None = None
 next_of_task (Some task) = Some (step_in task, event_in task)
 
+-- it can go on, or ask
+abbrev pub can_run : Option Task → Bool
+can_run None = false
+can_run (Some (Runs event)) = true
+can_run (Some (Asks event)) = false
+
+abbrev pub can_ask : Option Task → Bool
+can_ask None = false
+can_ask (Some (Runs event)) = false
+can_ask (Some (Asks event)) = true
+
 -- and the move by which it does so
 abbrev pub move_with : BlockName → Task → Move
 move_with name (Runs event) = Run name

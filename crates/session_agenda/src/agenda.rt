@@ -1,11 +1,11 @@
-ghost use Rattle.std.specs.Prelude.{◌≡◌, ◌+◌, ◌<◌, ◌^◌, ℕ, true, false, None, Some, IfOk, IsTrue, length, nat_eq, slice_get, if◌then◌else◌};
+ghost use Rattle.std.specs.Prelude.{◌≡◌, ◌+◌, ◌≤◌, ◌<◌, ◌^◌, ℕ, true, false, None, Some, IfOk, IsTrue, Contains, ◌↔◌, length, nat_eq, slice_get, if◌then◌else◌};
 ghost use Rattle.rising_list.specs.Rising.{find};
 ghost use Rattle.machine_tables.specs.Tables.{same_name};
 ghost use Rattle.session_runs.specs.Standing.{Block};
 ghost use Rattle.session_tables.specs.Touched.{named};
 ghost use Rattle.session_agenda.specs.Kept.{rank_by, task_by, next_of_task, next_by, waits_by, listed, deliveries_in, move_at, IsKept, HasRoomFor, IsFree, SameBounds};
 
-use crate::moves::{Move, Mover, Task, event_of, move_by, rank_of};
+use crate::moves::{Move, Mover, Task, can_ask, can_run, event_of, move_by, rank_if_any, rank_of};
 use avm_code::BlockName;
 use phrase_tree::NoMemory;
 use rising_list::RisingList;
@@ -70,14 +70,27 @@ impl Agenda {
     /// A block can do nothing now. Takes time in the logarithm of what is kept, beside the shift of the
     /// entries behind.
     pub fn unmark(&mut self, name: BlockName)
-        requires kept { IsKept self.old }
-        requires rank { rank_by name < 2 ^ 32 }
+        requires { IsKept self.old }
         ensures blocks { (block : Block) → next_by self.new block ≡ (if same_name (named name) block then None else next_by self.old block) }
         ensures places { (place : ℕ) → waits_by self.new place ≡ waits_by self.old place }
         ensures kept { IsKept self.new }
         ensures bounds { SameBounds self.old self.new }
     {
-        let rank = rank_of(name);
+        self.blocks.rises();
+        match rank_if_any(name) {
+            Some(rank) => self.unmark_at(name, rank),
+            None => {}
+        }
+    }
+
+    fn unmark_at(&mut self, name: BlockName, rank: u32)
+        requires kept { IsKept self.old }
+        requires rank { rank ≡ rank_by name }
+        ensures blocks { (block : Block) → next_by self.new block ≡ (if same_name (named name) block then None else next_by self.old block) }
+        ensures places { (place : ℕ) → waits_by self.new place ≡ waits_by self.old place }
+        ensures kept { IsKept self.new }
+        ensures bounds { SameBounds self.old self.new }
+    {
         let Some(task) = self.blocks.remove(rank) else {
             return;
         };
@@ -121,8 +134,12 @@ impl Agenda {
 
     /// The number of moves, in constant time.
     pub fn count(&self) -> u64
-        ensures { result ≡ length (listed self.now) }
+        ensures moves { result ≡ length (listed self.now) }
+        ensures few { result ≤ self.now.places.bound + self.now.silent.bound + self.now.events.bound }
     {
+        self.places.rises();
+        self.silent.rises();
+        self.events.rises();
         self.places.len() as u64 + self.silent.len() as u64 + self.events.len() as u64
     }
 
@@ -152,10 +169,26 @@ impl Agenda {
 
     /// What a block can do next; none exactly if nothing. Takes time in the logarithm of the blocks.
     pub fn task(&self, name: BlockName) -> Option<Task>
-        requires { rank_by name < 2 ^ 32 }
+        requires { IsKept self.now }
         ensures { result ≡ task_by self.now (named name) }
     {
-        self.blocks.find(rank_of(name))
+        self.blocks.rises();
+        match rank_if_any(name) {
+            Some(rank) => self.blocks.find(rank),
+            None => None,
+        }
+    }
+
+    /// Whether a move is possible. Takes time in the logarithm of what is kept.
+    pub fn can(&self, asked: Move) -> bool
+        requires { IsKept self.now }
+        ensures { IsTrue result ↔ Contains (listed self.now) asked }
+    {
+        match asked {
+            Move::Deliver(place) => self.waits(place),
+            Move::Run(name) => can_run(self.task(name)),
+            Move::Ask(name) => can_ask(self.task(name)),
+        }
     }
 
     /// Whether no block is marked for the event of what a block can do next. Takes time in the logarithm

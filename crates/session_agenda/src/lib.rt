@@ -11,7 +11,8 @@ mod laws;
 mod moves;
 #[cfg(test)]
 mod tests;
+mod updates;
 
 pub use agenda::Agenda;
-pub use laws::listed_law;
-pub use moves::{Move, Mover, Task};
+pub use laws::{followed_law, listed_law, opening_law, told_law};
+pub use moves::{Move, Mover, PlaceUpdate, Task, Update};

@@ -1,3 +1,4 @@
+ghost use Rattle.std.specs.Prelude.{◌≡◌};
 ghost use Rattle.session_agenda.specs.Kept.{IsKept, HasRoomFor, SameBounds};
 
 use super::*;
@@ -81,6 +82,61 @@ fn deliveries_come_first_and_events_last(rt: HostRuntime) -> Result<(), NoMemory
     agenda.unmark_place(1);
     assert!(rt; !agenda.waits(1));
     assert_eq!(rt; agenda.count(), 5);
+    assert!(rt; !agenda.can(Move::Deliver(1)));
+    assert!(rt; agenda.can(Move::Deliver(0)));
+    assert!(rt; agenda.can(Move::Run(BlockName::Of(2))));
+    assert!(rt; !agenda.can(Move::Ask(BlockName::Of(2))));
+    assert!(rt; agenda.can(Move::Ask(BlockName::Of(5))));
+    assert!(rt; !agenda.can(Move::Run(BlockName::Of(5))));
+    assert!(rt; !agenda.can(Move::Run(BlockName::Of(6))));
+    assert!(rt; !agenda.can(Move::Run(BlockName::Of(u32::MAX))));
     listed_law();
+    followed_law();
+    Ok(())
+}
+
+/// An update of a block.
+fn now(name: BlockName, task: Option<Task>) -> Update
+    ensures { result ≡ record { name = name; task = task } }
+{
+    Update { name, task }
+}
+
+#[test]
+fn one_call_tells_what_an_entry_changes(rt: HostRuntime) -> Result<(), NoMemory> {
+    let right = BlockName::Of(0);
+    let mut agenda = Agenda::open(rt.alloc(), 4, 2)?;
+    agenda.follow(&[now(BlockName::Root, Some(Task::Runs(Some(0))))], None);
+    assert_eq!(rt; agenda.count(), 1);
+    assert_eq!(rt; agenda.nth(0), Some(Move::Run(BlockName::Root)));
+    // The root forked: each arm asks.
+    let arms = [
+        now(BlockName::Root, Some(Task::Asks(1))),
+        now(right, Some(Task::Asks(2))),
+    ];
+    agenda.follow(
+        &arms,
+        Some(PlaceUpdate {
+            place: 1,
+            waits: true,
+        }),
+    );
+    assert_eq!(rt; agenda.count(), 3);
+    assert_eq!(rt; agenda.nth(0), Some(Move::Deliver(1)));
+    assert_eq!(rt; agenda.nth(1), Some(Move::Ask(BlockName::Root)));
+    assert_eq!(rt; agenda.nth(2), Some(Move::Ask(right)));
+    assert!(rt; !agenda.can(Move::Run(BlockName::Root)));
+    // The right arm asked, and the request was delivered.
+    agenda.follow(
+        &[now(right, None)],
+        Some(PlaceUpdate {
+            place: 1,
+            waits: false,
+        }),
+    );
+    assert_eq!(rt; agenda.count(), 1);
+    assert_eq!(rt; agenda.nth(0), Some(Move::Ask(BlockName::Root)));
+    opening_law();
+    told_law();
     Ok(())
 }
