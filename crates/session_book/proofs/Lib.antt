@@ -1,0 +1,3 @@
+pub mod Sorting
+pub mod Noting
+pub mod Asking
