@@ -1,0 +1,5 @@
+pub mod Core
+pub mod Steps
+pub mod Counted
+pub mod Did
+pub mod Named

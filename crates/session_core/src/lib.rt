@@ -1,0 +1,17 @@
+//! The core of a session: its machines, its possible moves, and what it keeps of its history. It knows no
+//! bench, and holds no reference.
+//!
+//! A core is one of a session, with keys, among places, after the history of its book (`IsCore` of
+//! `specs/Core.antt`). Each step requires that its entry can come next, appends it, and keeps the core one
+//! of that session. All room is taken when a core is opened, and no step takes memory.
+#![tactic(auto)]
+
+mod counting;
+mod laws;
+mod opening;
+mod steps;
+mod telling;
+#[cfg(test)]
+mod tests;
+
+pub use steps::Core;
