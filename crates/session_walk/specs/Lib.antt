@@ -1,0 +1,4 @@
+pub mod Drawn
+pub mod Taken
+pub mod UnderWay
+pub mod Records
