@@ -4,5 +4,8 @@ mod Going
 mod Asking
 mod Results
 mod Lifting
-mod Opened
+mod OpeningLemmas
 pub mod Counts
+pub mod Flying
+pub mod ReadingFacts
+pub mod Recording

@@ -3,3 +3,4 @@ pub mod Steps
 pub mod Counted
 pub mod Did
 pub mod Named
+pub mod Reading

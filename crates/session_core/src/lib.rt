@@ -9,9 +9,15 @@
 mod counting;
 mod laws;
 mod opening;
+mod places;
+mod played;
+mod reading;
+mod reading_laws;
 mod steps;
 mod telling;
 #[cfg(test)]
 mod tests;
 
+pub use played::{OutcomeError, PlayError, Played, RecordError};
+pub use session_book::{Entry, Move, State};
 pub use steps::Core;

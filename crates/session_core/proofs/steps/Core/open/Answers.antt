@@ -17,7 +17,7 @@ use Rattle.session_core.specs.declared.steps.Core.{Core}
 use Rattle.session_core.specs.Core.{program_in, IsMadeFor}
 use Rattle.session_core.specs.Counted.{question_count}
 use Rattle.session_core.specs.Named.{name_in}
-use Rattle.session_core.proofs.Opened.{can-play, is-opened, counts, names-mapped, names-many}
+use Rattle.session_core.proofs.OpeningLemmas.{can-play, is-opened, counts, names-mapped, names-many}
 use Rattle.session_core.proofs.steps.Core.open.Goals as goal
 
 pub open-requires-clause-can_play : goal.open-requires-clause-can_play
