@@ -17,3 +17,4 @@ pub mod PlayLemmas
 pub mod EndLemmas
 pub mod OpenLemmas
 pub mod DoesLemmas
+pub mod Playing

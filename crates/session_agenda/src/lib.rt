@@ -4,6 +4,10 @@
 //!
 //! Clauses see an agenda as what it keeps of each block (`next_by` of `specs/Kept.antt`), of each place
 //! (`waits_by`), and as its moves in order (`listed`). It knows no store, machine or session.
+//!
+//! After each entry of a history it is told what the blocks that the entry touches can do next, and where
+//! a request waits (`follow`; `Tells` of `specs/Told.antt` says what is to be told). Laws say that it then
+//! goes on to say what the tables of the session's machines say, and that its moves are the possible ones.
 #![tactic(auto)]
 
 mod agenda;
