@@ -9,3 +9,6 @@ pub mod Counts
 pub mod Flying
 pub mod ReadingFacts
 pub mod Recording
+pub mod PlayingFacts
+pub mod MoveCounts
+pub mod SessionFacts

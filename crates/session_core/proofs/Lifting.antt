@@ -21,7 +21,7 @@ use Rattle.session_tables.specs.Takes.{IsAskedBy}
 use Rattle.session_tables.specs.Touched.{touched, any_waits}
 use Rattle.session_agenda.specs.Told.{touched_place, TellsPlace}
 use Rattle.session_core.specs.declared.steps.Core.{Core}
-use Rattle.session_core.specs.Core.{program_in, tables_in, IsMadeFor, IsCoreAt}
+use Rattle.session_core.specs.Core.{program_in, history_in, tables_in, IsMadeFor, IsCoreAt}
 use Rattle.session_core.specs.Steps.{HasTaken, IsBehind, told_names}
 use Rattle.session_core.proofs.Facts.{named-is}
 use Rattle.session_core.proofs.Going.{late-from, index_get}
@@ -99,6 +99,20 @@ module _ (session : Session) (keys : List (List ℕ × List ℕ)) (places : List
   asked-now pass event name asked history after later flies stands law other is =
       subst (λ (s : Standing). is_in_flight s.in_flight pass asked.event ≡ true) (some_standing after other (sym stands ∙ is))
       (law (record { name = block_of name; there = ap (λ (f : ℕ → Option (ℕ × Block)). f asked.event) flies ∙ put_self asked.event (Some (pass, block_of name)) (tables_in core).in_flight }))
+
+none-asked : (pass : ℕ) (asked : Option (ℕ × Block)) → asked ≡ None → IsAskedBy pass asked → ⊥
+none-asked pass asked none by = none_some (sym none ∙ by.there)
+  where
+    none_some : (let o : Option (ℕ × Block) = None in o) ≡ Some (pass, by.name) → ⊥
+    none_some e = cc
+
+-- an event that isn't in flight in the tables isn't after the history
+pub was-free : (session : Session) (keys : List (List ℕ × List ℕ)) (places : List (List ℕ)) (standing : Standing) (core : Core) → IsCoreAt session keys places standing core → (pass event : ℕ) (before : Standing) → standing_after session keys (history_in core) ≡ Some before
+    → (tables_in core).in_flight event ≡ None
+    → (is_in_flight standing.in_flight pass event ≡ true → IsAskedBy pass ((tables_in core).in_flight event))
+    → is_in_flight before.in_flight pass event ≡ true → ⊥
+was-free session keys places standing core c pass event before stood free law flies =
+    none-asked pass ((tables_in core).in_flight event) free (law (subst (λ (s : Standing). is_in_flight s.in_flight pass event ≡ true) (some_standing before standing (sym stood ∙ c.played.played.stands)) flies))
 
 -- one answer more than before
 pub less_room : (answers : List (ℕ × List ℕ)) (answer : ℕ × List ℕ) (room : ℕ) (later : List (ℕ × List ℕ)) → answer ∷ answers ≡ later → length later ≤ room → length answers < room

@@ -1,34 +1,30 @@
 -- What a core tells of its session.
-use Rattle.std.proofs.Common.{◌≡◌, ℕ, zero, suc, ◌<◌, ◌≤◌, ◌+◌, inl, inr, List, [], ◌∷◌, ◌++◌, length, refl, sym, ◌∙◌, ap, subst, arith}
-use Rattle.std.specs.Prelude.{Bool, true, false, Option, None, Some, map, nat_eq, if◌then◌else◌, IsTrue, Contains, ◌↔◌, slice_get, slice_index_or}
+use Rattle.std.proofs.Common.{◌≡◌, ℕ, zero, suc, ◌<◌, inl, inr, List, [], ◌∷◌, length, refl, sym, ◌∙◌, ap, subst, arith}
+use Rattle.std.specs.Prelude.{Bool, true, false, Option, None, Some, map, nat_eq, Contains, ◌↔◌, slice_get, slice_index_or}
 use Rattle.std.specs.Option.{option_map}
 use Rattle.std.specs.Cmp.Lexicographic.{pointwise}
 use Rattle.std.proofs.lemmas.Option.{slice_get-map, slice_get_within}
 use Rattle.std.proofs.lemmas.Slice.Eq.{bytes_eq-Decides}
-use Rattle.evidence_types.specs.Evidence.{Evidence}
-use Rattle.bench_trait.specs.declared.ask.Ask.{Ask}
 use Rattle.bench_trait.specs.Asking.{question}
 use Rattle.avm_code.specs.declared.instr.BlockName.{BlockName}
 use Rattle.avm_code.specs.declared.instr.BlockName.TheVariants.{Root, Of}
 use Rattle.avm_code.specs.declared.instr.Instr.{Instr}
 use Rattle.avm_code.specs.declared.instr.Instr.TheVariants.{Copy, Usm, Kim, Sign, Hash, Null, Split, Swap, JoinSeq, Send, Recv, Fork, JoinPar, End}
-use Rattle.machine_tables.specs.Tables.{BlockState, running, Tables}
+use Rattle.machine_tables.specs.Tables.{BlockState, Tables}
 use Rattle.machine_tables.specs.Allowed.{Measures}
 use Rattle.machine_world.specs.Seen.{IsPlace}
-use Rattle.machine_world.specs.Named.{IsIndex}
 use Rattle.machine_world.specs.Cells.{block_of}
 use Rattle.machine_world.specs.Answers.{ask_for, ask_in, ask_at}
 use Rattle.machine_world.proofs.MailFrames.{same_place}
 use Rattle.session_model.specs.Session.{Session}
-use Rattle.session_runs.specs.Standing.{Block, root, of, Move, run, ask, deliver, is_open, Standing}
+use Rattle.session_runs.specs.Standing.{Move, run, ask, deliver, is_open, Standing}
 use Rattle.session_runs.specs.MoveOrder.{possible_moves}
 use Rattle.session_runs.specs.Ordered.{AreApart}
 use Rattle.session_runs.proofs.ListingLaws.{IsAmong, contains_among, among_contains}
-use Rattle.session_tables.specs.Touched.{named, any_waits}
+use Rattle.session_tables.specs.Touched.{named}
 use Rattle.session_tables.specs.Questions.{AsksItsQuestion, AsksNext}
 use Rattle.session_agenda.specs.declared.moves.Move.{Move as Listed}
 use Rattle.session_agenda.specs.declared.moves.Move.TheVariants as listed
-use Rattle.session_agenda.specs.declared.agenda.Agenda.{Agenda}
 use Rattle.session_agenda.specs.Kept as kept
 use Rattle.session_agenda.specs.Placed.{place_at, placed, placed_moves, waits_at, Follows}
 use Rattle.session_agenda.proofs.Membership.{can_deliver}

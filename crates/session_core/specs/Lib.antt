@@ -4,3 +4,5 @@ pub mod Counted
 pub mod Did
 pub mod Named
 pub mod Reading
+pub mod Session
+pub mod Chronicle

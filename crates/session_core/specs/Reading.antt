@@ -1,5 +1,5 @@
 -- What a core of a session tells, and what its moves and results leave (this project's own).
-use Rattle.std.specs.Prelude.{◌≡◌, ◌<◌, ◌++◌, ◌∷◌, [], ℕ, true, List, Option, None, Some, Result, Ok, Err, Contains}
+use Rattle.std.specs.Prelude.{◌≡◌, ◌<◌, ◌∷◌, ℕ, true, List, Option, None, Some, Result, Ok, Err, Contains}
 use Rattle.evidence_types.specs.Evidence.{Evidence}
 use Rattle.bench_trait.specs.declared.ask.Ask.{Ask}
 use Rattle.bench_trait.specs.declared.bench.MeasureError.{MeasureError}

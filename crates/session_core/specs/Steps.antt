@@ -95,10 +95,12 @@ abbrev pub place_told : Moved → Option PlaceUpdate
 place_told (Sent event place id) = Some (record { place = place; waits = true })
 place_told _ = None
 
--- a question is the session's own, of an event that is in flight by this pass after a history
-pub record IsAsked (session : Session) (keys : List (List ℕ × List ℕ)) (pass : ℕ) (history : List Entry) (ask : Ask) : Type 0 where
+-- a question is the session's own, of an event that is in flight by this pass after the one history, and
+-- wasn't after the other
+pub record IsAsked (session : Session) (keys : List (List ℕ × List ℕ)) (pass : ℕ) (before after : List Entry) (ask : Ask) : Type 0 where
   pub own : question session.phrase session.root session.nonce ask.event ≡ Some ask
-  pub flies : (standing : Standing) → standing_after session keys history ≡ Some standing → is_in_flight standing.in_flight pass ask.event ≡ true
+  pub flies : (standing : Standing) → standing_after session keys after ≡ Some standing → is_in_flight standing.in_flight pass ask.event ≡ true
+  pub fresh : (standing : Standing) → standing_after session keys before ≡ Some standing → is_in_flight standing.in_flight pass ask.event ≡ true → ⊥
 
 -- a block that isn't the root is started; the same where a block did this and it ended
 abbrev pub IsStartedByName : BlockName → World → Type 0

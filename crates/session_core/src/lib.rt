@@ -6,18 +6,25 @@
 //! of that session. All room is taken when a core is opened, and no step takes memory.
 #![tactic(auto)]
 
+mod chronicle;
 mod counting;
 mod laws;
+mod opened;
 mod opening;
 mod places;
 mod played;
+mod playing;
 mod reading;
 mod reading_laws;
+mod session;
 mod steps;
 mod telling;
 #[cfg(test)]
 mod tests;
+mod threads;
 
+pub use opened::Opened;
 pub use played::{OutcomeError, PlayError, Played, RecordError};
+pub use session::Session;
 pub use session_book::{Entry, Move, State};
 pub use steps::Core;

@@ -48,7 +48,7 @@ impl Core {
         ensures adds { Adds (played pass (ask (block_of name))) self.old.book self.new.book }
         ensures core { (keys : List (List ℕ × List ℕ)) → IsCoreAgain keys self.old self.new }
         ensures asked { (session : Session) (keys : List (List ℕ × List ℕ)) (places : List (List ℕ)) →
-            IsCore session keys places self.old → IsAsked session keys pass (history_in self.new) result }
+            IsCore session keys places self.old → IsAsked session keys pass (history_in self.old) (history_in self.new) result }
     {
         let asked = self.lift(pass, name);
         self.tell(name, None, None);
@@ -137,7 +137,7 @@ impl Core {
         requires { CanTake (played pass (ask (block_of name))) self.old }
         ensures adds { Adds (played pass (ask (block_of name))) self.old.book self.new.book }
         ensures asked { (session : Session) (keys : List (List ℕ × List ℕ)) (places : List (List ℕ)) →
-            IsCore session keys places self.old → IsAsked session keys pass (history_in self.new) result }
+            IsCore session keys places self.old → IsAsked session keys pass (history_in self.old) (history_in self.new) result }
         ensures behind { (session : Session) (keys : List (List ℕ × List ℕ)) (places : List (List ℕ)) →
             IsCore session keys places self.old → IsBehind session keys places name None None self.new }
     {

@@ -16,4 +16,4 @@ returns-clause-core c = λ keys session places at.
 
 pub returns-clause-asked : goal.returns-clause-asked
 returns-clause-asked c = λ session keys places at.
-    subst (λ (h : List Entry). IsAsked session keys c.args.pass h c.lift-asked.result) (sym (ap (λ (core : Core). history_of core.book) c.tell.ensures.rest)) (c.lift-asked.ensures.asked session keys places at)
+    subst (λ (h : List Entry). IsAsked session keys c.args.pass (history_of c.args.self.now.book) h c.lift-asked.result) (sym (ap (λ (core : Core). history_of core.book) c.tell.ensures.rest)) (c.lift-asked.ensures.asked session keys places at)

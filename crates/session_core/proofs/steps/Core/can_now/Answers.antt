@@ -1,4 +1,4 @@
-use Rattle.std.proofs.Common.{◌≡◌, ℕ, List, sym, ap, ◌∙◌, subst}
+use Rattle.std.proofs.Common.{◌≡◌, List, sym, ◌∙◌, subst}
 use Rattle.std.specs.Prelude.{Bool, false, IsTrue, Contains, ◌↔◌}
 use Rattle.session_runs.specs.Standing.{Move as SessionMove}
 use Rattle.session_book.specs.declared.entry.Move.{Move}

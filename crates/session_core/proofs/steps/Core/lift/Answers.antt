@@ -8,7 +8,7 @@ use Rattle.session_core.specs.declared.steps.Core.{Core}
 use Rattle.session_core.specs.Core.{program_in, tables_in, tables_at}
 use Rattle.session_core.proofs.Facts.{open-of, core-ending, standing-by, tables-open, made-kept}
 use Rattle.session_core.proofs.Asking.{Finds, found-is, not-found}
-use Rattle.session_core.proofs.Lifting.{asking, behind-ask, asked-now, own-question}
+use Rattle.session_core.proofs.Lifting.{asking, behind-ask, asked-now, was-free, own-question}
 use Rattle.session_core.proofs.steps.Core.lift.Goals as goal
 
 pub ask-requires : goal.ask-requires
@@ -143,4 +143,9 @@ returns-clause-asked c = λ session others places at.
       own = (found-is session facts.event c.ask.result c.in-Some.asked (subst (Finds session facts.event) (sym c.ask.ensures) finds) c.in-Some.is).1;
       flies = asked-now session others places at.0 core is stands c.args.pass event name c.in-Some.asked (history_of c.ask-in-Some.new.self) taken.standing (tables_at core.world c.ask-in-Some.new.self) (ap (λ (b : Book). b.in_flight) booked) taken.played.played.stands
           (λ flies. (c.results_law.ensures.flies session others (history_of c.ask-in-Some.new.self) taken.standing (tables_at core.world c.ask-in-Some.new.self) c.args.pass event taken.played.played).1 flies);
+      fresh = λ before stood flies.
+          was-free session others places at.0 core is c.args.pass event before stood
+          (c.free_law.ensures.unasked session others (history_of core.book) at.0 (tables_in core) (block_of name) ask_step event is.played.played stands next)
+          (λ flying. (c.results_law.ensures.flies session others (history_of core.book) at.0 (tables_in core) c.args.pass event is.played.played).0 flying)
+          flies;
     }
