@@ -3,3 +3,6 @@ pub mod RoundLemmas
 pub mod MeasuredLemmas
 pub mod UnderWayLemmas
 pub mod RecordLemmas
+pub mod FixedLemmas
+pub mod PlayingLemmas
+pub mod JobLemmas

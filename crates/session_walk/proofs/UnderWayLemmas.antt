@@ -23,7 +23,7 @@ use Rattle.session_runs.proofs.ListingLaws.{IsAmong, contains_among, among_conta
 use Rattle.session_runs.proofs.ScheduleLaws.{OfZero, AreFine, fine_all, running_open, round_moves, some_open}
 use Rattle.session_walk.specs.Drawn.{open_ones, IsOwnAsk, CanGoOn, IsDrawn}
 use Rattle.session_walk.specs.Taken.{GoesOn, TakesCandidate}
-use Rattle.session_walk.specs.UnderWay.{AreUnderWay, IsWalking, entries_in, entries_left, IsRoundOn, AreScheduled}
+use Rattle.session_walk.specs.UnderWay.{AreUnderWay, IsWalking, entries_in, sessions_of, entries_left, IsRoundOn, AreScheduled}
 use Rattle.session_walk.proofs.OpenLemmas.{RunsAt, open_there, open_counted, open_stays, open_ends, open_at_first, still_fed, opened_fed}
 use Rattle.session_walk.proofs.RoundLemmas.{order_length, with_result, has_result, agree_from, candidate_of, next_round}
 use Rattle.session_walk.proofs.MeasuredLemmas.{result_measured, all_measured, opened_measured}
@@ -124,12 +124,18 @@ module _ (Gives : Ask → List ℕ → Type 0) (Fails : Ask → BenchFault → T
       }
 
   -- each round adds an entry, and there are no more of these than phrases allow
-  few_entries : (results : ℕ → ℕ → Result (List ℕ) MeasureError) (n : ℕ) (those : List Session) (all : List Walked) → ArePlayed keys results n those all → entries_in all ≤ entries_at_most those
+  few_entries : (results : ℕ → ℕ → Result (List ℕ) MeasureError) (n : ℕ) (those : List Session) (all : List Walked) → ArePlayed keys results n those all → entries_in all ≤ entries_at_most (sessions_of all)
   few_entries results n [] [] p = omega arith
   few_entries results n [] (walked ∷ all) p = absurd p
   few_entries results n (session ∷ those) [] p = absurd p
   few_entries results n (session ∷ those) (walked ∷ all) p =
-      omega (arith, laws.short session walked.history walked.standing p.0.stands, few_entries results (n + 1) those all p.1)
+      omega (arith, laws.short session walked.history walked.standing p.0.stands, ap (λ s. event_count s.phrase) p.0.same, few_entries results (n + 1) those all p.1)
+
+  same_sessions : (all : List Walked) (i : ℕ) (before after : Walked) → slice_get all i ≡ Some before → after.session ≡ before.session → sessions_of (set all i after) ≡ sessions_of all
+  same_sessions [] i before after there h = absurd (none-some before there)
+  same_sessions (first ∷ rest) zero before after there h =
+      ap (λ s. s ∷ sessions_of rest) (h ∙ ap (λ w. w.session) (sym (same_Some first before there)))
+  same_sessions (first ∷ rest) (suc i) before after there h = ap (λ xs. first.session ∷ xs) (same_sessions rest i before after there h)
 
   entry_more : (all : List Walked) (i : ℕ) (before after : Walked) (entry : Entry) → slice_get all i ≡ Some before → after.history ≡ before.history ++ entry ∷ [] → entries_in (set all i after) ≡ entries_in all + 1
   entry_more [] i before after entry there h = absurd (none-some before there)
@@ -137,9 +143,9 @@ module _ (Gives : Ask → List ℕ → Type 0) (Fails : Ask → BenchFault → T
       omega (arith, ap (λ x. length x) h, length-append before.history (entry ∷ []), ap (λ w. length w.history) (same_Some first before there))
   entry_more (first ∷ rest) (suc i) before after entry there h = omega (arith, entry_more rest i before after entry there h)
 
-  pub fewer : (all : List Walked) (from : Option ℕ) (i : ℕ) (before after : Walked) (entry : Entry) (later : Option ℕ) → AreUnderWay Gives Fails Starves places keys sessions number (set all i after) later → slice_get all i ≡ Some before → GoesOn keys entry before after → entries_left sessions (set all i after) < entries_left sessions all
+  pub fewer : (all : List Walked) (from : Option ℕ) (i : ℕ) (before after : Walked) (entry : Entry) (later : Option ℕ) → AreUnderWay Gives Fails Starves places keys sessions number (set all i after) later → slice_get all i ≡ Some before → GoesOn keys entry before after → entries_left (set all i after) < entries_left all
   fewer all from i before after entry later way there goes =
-      omega (arith, entry_more all i before after entry there goes.history, few_entries way.results 0 sessions (set all i after) (plays_all (set all i after) later way))
+      omega (arith, entry_more all i before after entry there goes.history, few_entries way.results 0 sessions (set all i after) (plays_all (set all i after) later way), ap (λ xs. entries_at_most xs) (same_sessions all i before after there goes.session))
 
   -- while the sessions are walked
   pub begins : IsWalking Gives Fails Starves places keys sessions number (all_opened sessions) (numbers_below (length sessions)) (first_from number)

@@ -8,7 +8,7 @@ use Rattle.session_model.specs.Record.{Record, done, failed, IsRisingRecord}
 use Rattle.session_model.specs.RightRecord.{IsRightRecord}
 use Rattle.session_runs.specs.History.{record_of}
 use Rattle.session_runs.specs.Schedule.{Walked, scheduled}
-use Rattle.session_runs.specs.Played.{AllMeasured}
+use Rattle.session_runs.specs.Played.{AskOnly, AreLegal}
 use Rattle.session_runs.specs.ByFaults.{scheduled_traces}
 
 -- the record of a session as it stands, where it is done or failed
@@ -58,12 +58,14 @@ faults_in (found ∷ records) zero = failed_in found
 faults_in (found ∷ records) (suc number) = faults_in records number
 
 -- the records are those of the sessions of a job as the schedule of a number plays them, with some results of
--- the bench: each record is right; the traces are those of the schedule where each session fails at the
--- event at which its record says that it failed, and every other ask is answered; and in schedule number 0
--- the events of each session happened in the order of their numbers
+-- the bench: their phrases ask only these places, and their histories are legal; each record is right; the
+-- traces are those of the schedule where each session fails at the event at which its record says that it
+-- failed, and every other ask is answered; and in schedule number 0 the events of each session happened in
+-- the order of their numbers
 pub record AreOfWalk (Gives : Ask → List ℕ → Type 0) (Fails : Ask → BenchFault → Type 0) (Starves : Ask → Type 0) (places : List (List ℕ)) (keys : List (List ℕ × List ℕ)) (sessions : List Session) (number : ℕ) (records : List Record) : Type 0 where
+  pub only : AskOnly places sessions
   pub results : ℕ → ℕ → Result (List ℕ) MeasureError
-  pub measured : AllMeasured Gives Fails Starves results 0 (scheduled places keys results sessions number)
+  pub legal : AreLegal Gives Fails Starves keys sessions (scheduled places keys results sessions number)
   pub recorded : AreRecordsOf (scheduled places keys results sessions number) records
   pub right : AreRightRecords Gives Fails keys sessions records
   pub traced : traces_in records ≡ scheduled_traces places (faults_in records) sessions number

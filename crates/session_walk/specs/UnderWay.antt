@@ -28,15 +28,19 @@ abbrev pub entries_in : List Walked → ℕ
 entries_in [] = 0
 entries_in (walked ∷ all) = length walked.history + entries_in all
 
-abbrev pub entries_left : List Session → List Walked → ℕ
-entries_left sessions all = entries_at_most sessions - entries_in all
+abbrev pub sessions_of : List Walked → List Session
+sessions_of [] = []
+sessions_of (walked ∷ all) = walked.session ∷ sessions_of all
+
+abbrev pub entries_left : List Walked → ℕ
+entries_left all = entries_at_most (sessions_of all) - entries_in all
 
 -- one round on: the open session at this index, which has this number, has become this one; it stays among
 -- the open ones while it runs, and leaves them when it ends; and fewer entries are left
 pub record IsRoundOn (Gives : Ask → List ℕ → Type 0) (Fails : Ask → BenchFault → Type 0) (Starves : Ask → Type 0) (places : List (List ℕ)) (keys : List (List ℕ × List ℕ)) (sessions : List Session) (number : ℕ) (all : List Walked) (going : List ℕ) (drawn played : ℕ) (after : Walked) (later : Option ℕ) : Type 0 where
   pub stays : is_running after.standing.state ≡ true → IsWalking Gives Fails Starves places keys sessions number (slice_set all played after) going later
   pub ends : is_running after.standing.state ≡ false → is_starving after.standing.state ≡ false → IsWalking Gives Fails Starves places keys sessions number (slice_set all played after) (remove going drawn) later
-  pub fewer : entries_left sessions (slice_set all played after) < entries_left sessions all
+  pub fewer : entries_left (slice_set all played after) < entries_left all
 
 -- these sessions stand as the schedule of a number plays them, and none is starved: there is a table of results
 -- with which they do, and those that stand in their histories are of the bench

@@ -33,6 +33,7 @@ impl Draws {
     pub fn draw(&mut self, count: usize) -> usize
         requires { 0 < count }
         ensures drawn { result ≡ (draw count self.old).drawn }
+        ensures below { result < count }
         ensures from { self.new ≡ (draw count self.old).from }
     {
         if count == 1 {

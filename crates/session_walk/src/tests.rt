@@ -47,4 +47,5 @@ fn the_laws_of_walks_are_called(rt: HostRuntime) {
     let artefacts = ArtefactBook::empty(rt.alloc());
     walk_law::<DigestBench>();
     records_law(&DigestBench, &artefacts);
+    digests_make_one_walk();
 }

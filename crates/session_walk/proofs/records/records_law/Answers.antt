@@ -27,8 +27,9 @@ returns g c =
           let recorded : AreRecordsOf those records = subst (λ w. AreRecordsOf w records) (sym stands.stand) are in
           let fed : one_starves those ≡ false = ap (λ w. one_starves w) stands.stand ∙ stands.fed in
           record {
+            only = only;
             results = stands.results;
-            measured = measured;
+            legal = legal;
             recorded = recorded;
             right = are_right Gives Fails Starves keys stands.results (λ session. c.record_law.ensures session keys) 0 sessions those records plays legal recorded;
             traced =
