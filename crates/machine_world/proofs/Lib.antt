@@ -18,3 +18,4 @@ pub mod EndLemmas
 pub mod OpenLemmas
 pub mod DoesLemmas
 pub mod Playing
+pub mod TouchLemmas

@@ -6,3 +6,4 @@ pub mod Calls
 pub mod Answers
 pub mod Playable
 pub mod Does
+pub mod Touched

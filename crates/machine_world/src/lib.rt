@@ -24,7 +24,7 @@ mod waiters;
 mod world;
 
 pub use laws::{a_block_has_one_index, mail_on_values, one_block_changes};
-pub use moved::{Moved, Ready};
+pub use moved::{Moved, Ready, Touched};
 pub use play::phrases_play;
 pub use runner::Runner;
 pub use world::World;

@@ -32,3 +32,13 @@ pub enum Ready {
     /// It waits for the answer of this event, which is asked for once.
     Asks(u32),
 }
+
+/// Which request or reply a block's next instruction sends, with the evidence that goes with it, or needs;
+/// by the number of the request.
+#[derive(Clone, Copy, Debug, PartialEq, Eq)]
+pub enum Touched {
+    Nothing,
+    SendsRequest { number: u32, evidence: EvId },
+    SendsReply { number: u32, evidence: EvId },
+    NeedsReply(u32),
+}

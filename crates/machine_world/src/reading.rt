@@ -2,8 +2,9 @@ ghost use Rattle.std.specs.Prelude.{◌≡◌, ◌<◌, length, slice_index_or};
 ghost use Rattle.machine_world.specs.Cells.{nobody};
 ghost use Rattle.machine_world.specs.World.{empty_block};
 ghost use Rattle.machine_world.specs.Answers.{ready_with, ready_by, ask_for};
+ghost use Rattle.machine_world.specs.Touched.{touched_at_end, touched_by};
 
-use crate::moved::Ready;
+use crate::moved::{Ready, Touched};
 use crate::runner::Runner;
 use avm_code::{Block, BlockName, Instr, Program};
 use bench_trait::{Ask, AskKind};
@@ -99,5 +100,35 @@ fn question(nonce: &[u8; 16], event: u32, place: Place, kind: AskKind, asp: &Asp
         place,
         kind,
         asp: asp.copy(),
+    }
+}
+
+/// What a block on this evidence sends or needs with an instruction.
+pub fn touched_by(instr: &Instr, name: BlockName, remote: bool, evidence: EvId) -> Touched
+    ensures { result ≡ touched_by name remote evidence instr.now }
+{
+    match instr {
+        Instr::Send(number, _) => Touched::SendsRequest {
+            number: *number,
+            evidence,
+        },
+        Instr::Recv(_, number) => Touched::NeedsReply(*number),
+        Instr::End => touched_at_end(name, remote, evidence),
+        _ => Touched::Nothing,
+    }
+}
+
+fn touched_at_end(name: BlockName, remote: bool, evidence: EvId) -> Touched
+    ensures { result ≡ touched_at_end name remote evidence }
+{
+    match name {
+        BlockName::Root => Touched::Nothing,
+        BlockName::Of(number) => {
+            if remote {
+                Touched::SendsReply { number, evidence }
+            } else {
+                Touched::Nothing
+            }
+        }
     }
 }

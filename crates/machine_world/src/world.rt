@@ -20,11 +20,12 @@ ghost use Rattle.machine_world.specs.Cells.{Book, block_of, tables_of, book_afte
 ghost use Rattle.machine_world.specs.World.{CanPlay, IsCounted, IsWorld, IsWorldForSome, IsWorldAgain, IsListed, HasRoom, HasRoomFor};
 ghost use Rattle.machine_world.specs.Calls.{RunsAt, CanSettle, SettlesAs, WaitsFor, requests_of, replies_of, runner_at, settled_tables, with_cell};
 ghost use Rattle.machine_world.specs.Does.{Does, IfMoves};
+ghost use Rattle.machine_world.specs.Touched.{TouchesAt};
 ghost use Rattle.machine_world.specs.Answers.{IfWaits, IsUnchanged, SendsTo, IfSent, next_by_book, ask_of, first_number, IsStarted};
 
-use crate::moved::{Moved, Ready};
+use crate::moved::{Moved, Ready, Touched};
 use crate::places::index_of_place;
-use crate::reading::{ask_for, instr_of, name_at, place_of, ready_by};
+use crate::reading::{ask_for, instr_of, name_at, place_of, ready_by, touched_by};
 use crate::runner::{Runner, idle};
 use crate::waiters::waiters;
 use avm_code::{BlockName, Program};
@@ -212,6 +213,19 @@ impl World {
         }
     }
 
+    /// Which request or reply a block's next instruction sends or needs; nothing where the block doesn't
+    /// run. Takes constant time apart from finding the block.
+    pub fn touched(&self, name: BlockName) -> Touched
+        requires { IsWorldForSome self.now }
+        ensures { TouchesAt self.now.store.values name ((tables_of self.now opening_book).blocks (block_of name)) result }
+    {
+        match self.table.state(name) {
+            BlockState::Running => self.touched_on(name),
+            BlockState::NotStarted => Touched::Nothing,
+            BlockState::Ended(_) => Touched::Nothing,
+        }
+    }
+
     /// The block that waits for the reply to the request of this number, or for the result of the right
     /// arm, once its block is started. Takes constant time apart from finding the block.
     pub fn waiter(&self, number: u32) -> BlockName
@@ -280,6 +294,23 @@ impl World {
         let index = self.program.index_of(name);
         let instr = instr_of(&self.program, &self.runners, index);
         ask_for(instr, place_of(&self.program, index), nonce)
+    }
+
+    fn touched_on(&self, name: BlockName) -> Touched
+        requires world { IsWorldForSome self.now }
+        requires running { state_of self.now.table name ≡ BlockState.Running }
+        ensures { TouchesAt self.now.store.values name ((tables_of self.now opening_book).blocks (block_of name)) result }
+    {
+        let index = self.program.index_of(name);
+        let instr = instr_of(&self.program, &self.runners, index);
+        touched_by(instr, name, self.remote_at(index), self.evidence_at(index))
+    }
+
+    fn evidence_at(&self, index: usize) -> EvId
+        requires { index < length self.now.runners.items }
+        ensures { result ≡ (runner_at self.now index).machine.evidence }
+    {
+        self.runners[index].machine.evidence()
     }
 
     fn answer_at(&mut self, index: usize, answer: &Answer) -> Result<(), NoMemory>
