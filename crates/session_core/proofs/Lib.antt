@@ -12,3 +12,4 @@ pub mod Recording
 pub mod PlayingFacts
 pub mod MoveCounts
 pub mod SessionFacts
+pub mod TouchingFacts

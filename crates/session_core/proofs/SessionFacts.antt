@@ -1,6 +1,7 @@
 -- What a session is to its core, and its entries.
 use Rattle.std.proofs.Common.{◌≡◌, ℕ, suc, ◌+◌, ◌*◌, ◌≤◌, List, [], ◌∷◌, ◌++◌, length, refl, sym, ◌∙◌, ap, subst, arith}
 use Rattle.std.specs.Prelude.{Option, None, Some, map, slice_get, Result, Ok, Err, IfOk, OnOk, OnErr}
+use Rattle.std.specs.List.{AllByRecursion}
 use Rattle.std.specs.Option.{option_map}
 use Rattle.std.proofs.lemmas.Option.{slice_get-map}
 use Rattle.std.proofs.lemmas.List.{length-map}
@@ -16,8 +17,8 @@ use Rattle.avm_code.specs.declared.instr.BlockName.{BlockName}
 use Rattle.avm_code.specs.declared.instr.BlockName.TheVariants.{Root, Of}
 use Rattle.machine_world.specs.Cells.{block_of}
 use Rattle.session_model.specs.Session.{Session, session_questions}
-use Rattle.session_runs.specs.Standing.{Block, root, of, Move as SessionMove, run, ask, deliver, Entry as SessionEntry, opened, played, answered, failed, starved, Standing}
-use Rattle.session_runs.specs.History.{standing_after, IsResult, AreResults, IsLegal}
+use Rattle.session_runs.specs.Standing.{Block, root, of, Move as SessionMove, run, ask, deliver, Entry as SessionEntry, opened, played, answered, failed, starved, State, is_open, is_done, has_failed, has_starved, Standing, opening as opening_standing, where_open, next}
+use Rattle.session_runs.specs.History.{further, standing_after, IsResult, AreResults, IsLegal}
 use Rattle.session_runs.proofs.EntryLaws.{no_standing}
 use Rattle.session_book.specs.declared.entry.Entry.{Entry}
 use Rattle.session_book.specs.declared.entry.Entry.TheVariants as entry
@@ -32,8 +33,10 @@ use Rattle.session_core.specs.declared.steps.Core.{Core}
 use Rattle.session_core.specs.Core.{history_in, IsCore, IsCoreAt, IsCoreAgain}
 use Rattle.session_core.specs.Steps.{Adds}
 use Rattle.session_core.specs.declared.played.Played.{Played}
-use Rattle.session_core.specs.Reading.{result_entry, TellsOf, TellsAfter}
-use Rattle.session_core.specs.Session.{Seen, with_entry, kept_entry, behind, items_of, session_in, keys_in, places_in, history, StandsAt, IsSession}
+use Rattle.session_core.specs.Reading.{Tells, result_entry, TellsOf, TellsAfter}
+use Rattle.session_core.specs.Touching.{IsMessageOf}
+use Rattle.phrase_tree.specs.declared.memory.NoMemory.{NoMemory}
+use Rattle.session_core.specs.Session.{Seen, IsItem, with_entry, kept_entry, behind, items_of, session_in, keys_in, places_in, history, StandsAt, IsSession}
 use Rattle.session_runs.specs.MoveOrder.{possible_moves}
 use Rattle.session_runs.specs.Room.{HasRoom}
 use Rattle.session_core.proofs.MoveCounts.{moves_few}
@@ -149,6 +152,26 @@ item_more session keys standing one old new e adds =
 pub no_items : (book : SessionBook) → history_of book ≡ opened ∷ [] → items_of book ≡ []
 no_items book e = all_items book ∙ ap (λ es. behind (map back es)) e
 
+-- none of them is an opening
+opened_no : (Q : Type 0) (state : State) (t : Standing) → where_open state None ≡ Some t → Q
+opened_no Q is_open t e = no_standing Q t e
+opened_no Q (is_done value) t e = no_standing Q t e
+opened_no Q (has_failed event fault) t e = no_standing Q t e
+opened_no Q (has_starved event) t e = no_standing Q t e
+
+one_item : (session : Session) (keys : List (List ℕ × List ℕ)) (s t : Standing) (items : List Entry) (x : Option Standing) (y : Entry) → next session keys s (entry_of y) ≡ x → further session keys x (map entry_of items) ≡ Some t → ((u : Standing) → further session keys (Some u) (map entry_of items) ≡ Some t → AllByRecursion IsItem items) → AllByRecursion IsItem (y ∷ items)
+one_item session keys s t items None y f g k = no_standing _ t g
+one_item session keys s t items (Some u) entry.Opened f g k = opened_no _ s.state u f
+one_item session keys s t items (Some u) (entry.Played pass step) f g k = (tt, k u g)
+one_item session keys s t items (Some u) (entry.Answered pass event answer) f g k = (tt, k u g)
+one_item session keys s t items (Some u) (entry.Failed pass event fault) f g k = (tt, k u g)
+one_item session keys s t items (Some u) (entry.Starved pass event) f g k = (tt, k u g)
+
+all_items_are : (session : Session) (keys : List (List ℕ × List ℕ)) (s t : Standing) (items : List Entry) → further session keys (Some s) (map entry_of items) ≡ Some t → AllByRecursion IsItem items
+all_items_are session keys s t [] e = tt
+all_items_are session keys s t (one ∷ items) e =
+    one_item session keys s t items (next session keys s (entry_of one)) one refl e (λ u g. all_items_are session keys u t items g)
+
 -- the entry at an index
 pub item_at : (session : Session) (keys : List (List ℕ × List ℕ)) (standing : Standing) (book : SessionBook) (found : Option Entry) (index : ℕ) → standing_after session keys (history_of book) ≡ Some standing → option_map entry_of found ≡ slice_get (history_of book) index → found ≡ slice_get (entry.Opened ∷ items_of book) index
 item_at session keys standing book found index e f =
@@ -212,6 +235,22 @@ module _ (B : Type 0) (gives : B → List Artefact → Ask → List ℕ → Type
       let most : length (history_in core) ≤ 2 * event_count (session_in opening).phrase + 2 = law (session_in opening) (keys_in opening) (history_in core) i.is.0 i.is.1.played.played.stands in
       let sized : event_count (session_in opening).phrase ≤ 2048 = i.sized.events in
       omega (arith, most, sized)
+
+  pub bound_so : (opening : Opened B) (core : Core) (seen : Seen (Opened B)) → IsOf opening core → seen_by opening core.book ≡ seen → ((session : Session) (keys : List (List ℕ × List ℕ)) (entries : List SessionEntry) (standing : Standing) → standing_after session keys entries ≡ Some standing → length entries ≤ 2 * event_count session.phrase + 2) → length seen.items + 1 ≤ 2 * event_count (session_in seen.opening).phrase + 2
+  bound_so opening core seen i e law = subst At e small
+    where
+      At : Seen (Opened B) → Type 0
+      At s = length s.items + 1 ≤ 2 * event_count (session_in s.opening).phrase + 2
+
+      small : length (items_of core.book) + 1 ≤ 2 * event_count (session_in opening).phrase + 2
+      small =
+          let most : length (history_in core) ≤ 2 * event_count (session_in opening).phrase + 2 = law (session_in opening) (keys_in opening) (history_in core) i.is.0 i.is.1.played.played.stands in
+          let counted : length (history_in core) ≡ length (items_of core.book) + 1 = count_so opening core (seen_by opening core.book) i refl in
+          omega (arith, most, counted)
+
+  pub items_so : (opening : Opened B) (core : Core) (seen : Seen (Opened B)) → IsOf opening core → seen_by opening core.book ≡ seen → AllByRecursion IsItem seen.items
+  items_so opening core seen i e =
+      subst (λ (s : Seen (Opened B)). AllByRecursion IsItem s.items) e (all_items_are (session_in opening) (keys_in opening) (opening_standing (session_in opening)) i.is.0 (items_of core.book) (ap (standing_after (session_in opening) (keys_in opening)) (history_so opening core i) ∙ i.is.1.played.played.stands))
 
   -- its possible moves
   pub moves_so : (opening : Opened B) (core : Core) (count : ℕ) → IsOf opening core → ((session : Session) (keys : List (List ℕ × List ℕ)) (places : List (List ℕ)) (standing : Standing) → IsCoreAt session keys places standing core → count ≡ length (possible_moves places standing)) → ((session : Session) (keys : List (List ℕ × List ℕ)) (entries : List SessionEntry) (standing : Standing) → standing_after session keys entries ≡ Some standing → HasRoom session standing) → count ≤ 4097
@@ -290,6 +329,12 @@ module _ (B : Type 0) (gives : B → List Artefact → Ask → List ℕ → Type
       by (Ok told) t =
           λ before after stood stands. t (session_in opening) (places_in opening) before after i.is (ap (standing_after (session_in opening) (keys_in opening)) (sym (history_so opening old i)) ∙ stood) (ap (standing_after (session_in opening) (keys_in opening)) (sym (history_so opening new j)) ∙ stands)
       by (Err x) t = tt
+
+  -- the message of a move
+  pub message_so : (opening : Opened B) (core : Core) (seen : Seen (Opened B)) (step : Move) (answer : Result (Option (List ℕ)) NoMemory) → IsOf opening core → seen_by opening core.book ≡ seen → IfOk answer (λ message. Tells core (λ session places standing. IsMessageOf places standing step message)) → IfOk answer (λ message. (standing : Standing) → StandsAt seen standing → IsMessageOf (places_in seen.opening) standing step message)
+  message_so opening core seen step (Ok message) i e tells =
+      λ standing stands. tells (session_in seen.opening) (keys_in seen.opening) (places_in seen.opening) standing (core_of opening core seen standing i e stands)
+  message_so opening core seen step (Err wanted) i e tells = tt
 
   -- ---- a session just opened
 

@@ -6,3 +6,4 @@ pub mod Named
 pub mod Reading
 pub mod Session
 pub mod Chronicle
+pub mod Touching

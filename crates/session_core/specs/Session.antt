@@ -58,6 +58,14 @@ pass_of (entry.Answered pass event answer) = pass
 pass_of (entry.Failed pass event fault) = pass
 pass_of (entry.Starved pass event) = pass
 
+-- it isn't the opening
+abbrev pub IsItem : Entry → Type 0
+IsItem entry.Opened = ⊥
+IsItem (entry.Played pass step) = Unit {0}
+IsItem (entry.Answered pass event answer) = Unit {0}
+IsItem (entry.Failed pass event fault) = Unit {0}
+IsItem (entry.Starved pass event) = Unit {0}
+
 -- the session that was opened, its keys, and its places
 abbrev pub session_in : {B : Type 0} → Opened B → Session
 session_in opening = session_of opening.checked.now

@@ -22,9 +22,10 @@ mod telling;
 #[cfg(test)]
 mod tests;
 mod threads;
+mod touching;
 
 pub use opened::Opened;
-pub use played::{OutcomeError, PlayError, Played, RecordError};
+pub use played::{OutcomeError, PlayError, Played, RecordError, Touch};
 pub use session::Session;
 pub use session_book::{Entry, Move, State};
 pub use steps::Core;

@@ -1,24 +1,25 @@
-ghost use Rattle.std.specs.Prelude.{◌≡◌, ◌+◌, ◌↔◌, ◌∷◌, ℕ, List, Some, Err, IsTrue, IsErr, IfOk, OnOk, OnErr, Contains, length, slice_get};
+ghost use Rattle.std.specs.Prelude.{◌≡◌, ◌+◌, ◌*◌, ◌≤◌, ◌↔◌, ◌∷◌, ℕ, List, None, Some, Ok, Err, IsTrue, IsErr, IfOk, OnOk, OnErr, Contains, length, slice_get};
 ghost use Rattle.std.specs.Option.{option_map};
-ghost use Rattle.phrase_tree.specs.Numbering.{IsSized};
-ghost use Rattle.evidence_types.specs.Bytes.{bundle};
+ghost use Rattle.std.specs.List.{AllByRecursion};
+ghost use Rattle.phrase_tree.specs.Numbering.{IsSized, event_count};
 ghost use Rattle.bench_trait.specs.declared.ask.Ask.{Ask as Question};
 ghost use Rattle.bench_trait.specs.Asking.{question};
 ghost use Rattle.bench_trait.specs.Bench.{MatchMeasured};
 ghost use Rattle.session_runs.specs.Standing.{is_open, Standing};
 ghost use Rattle.session_runs.specs.History.{IsLegal};
 ghost use Rattle.session_runs.specs.MoveOrder.{possible_moves, asks_in_order};
-ghost use Rattle.session_runs.specs.Touches.{touch_of, sent_by};
 ghost use Rattle.place_check.specs.Session.{IsCheckedAgainst, session_of};
 ghost use Rattle.session_book.specs.declared.entry.Entry.TheVariants as entry;
 ghost use Rattle.session_book.specs.Entries.{move_of};
 ghost use Rattle.session_core.specs.Reading.{word_of, HasStopped, question_of, result_entry, TellsOf, IsOutcome};
-ghost use Rattle.session_core.specs.Session.{with_entry, session_in, keys_in, places_in, history, StandsAt, IsAwaited, IsJustOpened};
+ghost use Rattle.session_core.specs.Touching.{IsTouchOf, IsMessageOf, IsImpossible};
+ghost use Rattle.session_core.specs.Session.{IsItem, with_entry, session_in, keys_in, places_in, history, StandsAt, IsAwaited, IsJustOpened};
 
 use crate::opened::Opened;
-use crate::played::{OutcomeError, PlayError, Played, RecordError};
+use crate::played::{OutcomeError, PlayError, Played, RecordError, Touch};
 use crate::steps::Core;
 use bench_trait::{ArtefactBook, Ask, Bench, MeasureError};
+use byte_ports::Bytes;
 use evidence_types::Answer;
 use phrase_tree::NoMemory;
 use place_check::{Checked, Places};
@@ -92,6 +93,16 @@ impl<'a, B: Bench> Session<'a, B> {
             (history self.now)
             standing }
     {
+        let _ = &self.opened;
+    }
+
+    /// A law: if the phrase has e events, a session has at most 2e + 2 entries, its opening among them; and
+    /// no other entry is an opening.
+    pub fn has_few_entries(&self)
+        ensures few { length self.now.items + 1 ≤ 2 * event_count (session_in self.now.opening).phrase + 2 }
+        ensures items { AllByRecursion IsItem self.now.items }
+    {
+        length_law();
         let _ = &self.opened;
     }
 
@@ -186,6 +197,26 @@ impl<'a, B: Bench> Session<'a, B> {
             (result ≡ Err OutcomeError.NotFinished) ↔ (standing.state ≡ is_open) }
     {
         self.core.outcome()
+    }
+
+    /// Which request or reply a possible move sends or needs, by its number; nothing for all others.
+    pub fn touches(&self, step: &Move) -> Touch
+        ensures possible { (standing : Standing) → StandsAt self.now standing → IsTouchOf (places_in self.now.opening) standing step.now result }
+        ensures otherwise { (standing : Standing) → StandsAt self.now standing →
+            IsImpossible (places_in self.now.opening) standing step.now → result ≡ Touch.Nothing }
+    {
+        self.core.touches(step)
+    }
+
+    /// The bundle of the evidence that a possible move sends; none if it sends no request and no reply,
+    /// and for all others. An error is want of memory.
+    pub fn message(&self, step: &Move) -> Result<Option<Bytes>, NoMemory>
+        ensures possible { IfOk result (λ message. (standing : Standing) → StandsAt self.now standing →
+            IsMessageOf (places_in self.now.opening) standing step.now message) }
+        ensures otherwise { (standing : Standing) → StandsAt self.now standing →
+            IsImpossible (places_in self.now.opening) standing step.now → result ≡ Ok None }
+    {
+        self.core.message(step)
     }
 
     /// The number of entries, with the opening.

@@ -1,0 +1,10 @@
+use Rattle.session_core.proofs.SessionFacts.{core_of, message_so}
+use Rattle.session_core.proofs.session.Session.message.Goals as goal
+
+pub returns-clause-possible : goal.returns-clause-possible
+returns-clause-possible g c =
+    message_so _ g.B.Bench.gives g.B.Bench.fails g.B.Bench.starves c.self.inside.opened c.self.inside.core _ c.args.step.now c.message.result c.self.invariant c.self.view_is c.message.ensures.possible
+
+pub returns-clause-otherwise : goal.returns-clause-otherwise
+returns-clause-otherwise g c standing stands =
+    c.message.ensures.otherwise _ _ _ standing (core_of _ g.B.Bench.gives g.B.Bench.fails g.B.Bench.starves c.self.inside.opened c.self.inside.core _ standing c.self.invariant c.self.view_is stands)
