@@ -1,0 +1,9 @@
+pub mod Rules
+pub mod PolicyText
+pub mod Covered
+pub mod Disclosures
+pub mod Denials
+pub mod Choices
+pub mod Flow
+pub mod Memory
+pub mod Walked
