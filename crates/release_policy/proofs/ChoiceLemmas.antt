@@ -26,13 +26,13 @@ none_taken : {A : Type 0} (b : Bool) (n : ℕ) (x : A) (xs : List A) → b ≡ f
 none_taken true n x xs e = absurd (cc)
 none_taken false n x xs e = refl
 
-denied_more : (policy : List Rule) (session : Session) (rest : List Session) (found : Denial) → first_denial policy session ≡ Some found → before_free policy (session ∷ rest) ≡ found ∷ before_free policy rest
+pub denied_more : (policy : List Rule) (session : Session) (rest : List Session) (found : Denial) → first_denial policy session ≡ Some found → before_free policy (session ∷ rest) ≡ found ∷ before_free policy rest
 denied_more policy session rest found e =
     let n = prefix_len (is_denied policy) rest in
     ap (λ list. filter_map (first_denial policy) list) (taken (is_denied policy session) n session rest (ap (λ o. is_some o) e))
     ∙ ap (λ o. cons_option o (before_free policy rest)) e
 
-free_here : (policy : List Rule) (session : Session) (rest : List Session) → first_denial policy session ≡ None → before_free policy (session ∷ rest) ≡ []
+pub free_here : (policy : List Rule) (session : Session) (rest : List Session) → first_denial policy session ≡ None → before_free policy (session ∷ rest) ≡ []
 free_here policy session rest e =
     ap (λ list. filter_map (first_denial policy) list) (none_taken (is_denied policy session) (prefix_len (is_denied policy) rest) session rest (ap (λ o. is_some o) e))
 

@@ -109,5 +109,5 @@ pub walk_of : (policy judge : List Rule) (checked : CheckedSession) (phrase : Ph
 walk_of policy judge checked phrase root held j p r h =
     ap (λ x. first_denied x (told_from (term phrase) root 0 held)) j
     ∙ (ap (λ x. first_denied policy (told_from (term x) root 0 held)) p
-        ∙ (ap (λ x. first_denied policy (told_from (term checked.phrase) x 0 held)) r
-            ∙ (ap (λ x. first_denied policy (told_from (term checked.phrase) checked.root 0 x)) h ∙ of_session policy (session_of checked))))
+    ∙ (ap (λ x. first_denied policy (told_from (term checked.phrase) x 0 held)) r
+    ∙ (ap (λ x. first_denied policy (told_from (term checked.phrase) checked.root 0 x)) h ∙ of_session policy (session_of checked))))

@@ -1,5 +1,8 @@
+pub mod Patterns
 pub mod Rules
+pub mod Cuts
 pub mod PolicyText
+pub mod Parts
 pub mod Covered
 pub mod Disclosures
 pub mod Denials

@@ -1,19 +1,12 @@
 -- The texts of release policies, and what is wrong with a text that is none. They are this project's own.
 use Rattle.std.specs.Prelude.{◌≡◌, ◌<◌, ◌≤◌, ◌==◌, ℕ, List, [], ◌∷◌, ◌++◌, Result, Ok, Err, length, codes, if◌then◌else◌}
-use Rattle.phrase_tree.specs.Name.{IsName}
 use Rattle.release_policy.specs.declared.policy.TheConstants.{RULES}
 use Rattle.release_policy.specs.declared.policy.ReleaseError.{ReleaseError}
 use Rattle.release_policy.specs.declared.policy.ReleaseError.TheVariants.{Bad, NoMemory}
 use Rattle.release_policy.specs.declared.rule.Mode.{Mode}
 use Rattle.release_policy.specs.declared.rule.Mode.TheVariants.{FromBare, FromSealed, FromHashed, Never}
-use Rattle.release_policy.specs.declared.rule.Pattern.{Pattern}
-use Rattle.release_policy.specs.declared.rule.Pattern.TheVariants.{Any, Named}
 use Rattle.release_policy.specs.declared.rule.Rule.{Rule}
-
--- "*", or a name
-abbrev pub pattern_text : Pattern → List ℕ
-pattern_text Any = 42 ∷ []
-pattern_text (Named name) = name
+use Rattle.release_policy.specs.Patterns.{IsPattern, IsPatternText, pattern_text}
 
 abbrev pub mode_text : Mode → List ℕ
 mode_text FromBare = codes "bare"
@@ -26,10 +19,12 @@ abbrev pub rule_text : Rule → List ℕ
 rule_text rule =
     pattern_text rule.place ++ 58 ∷ (pattern_text rule.measurement ++ 61 ∷ (mode_text rule.mode ++ 62 ∷ pattern_text rule.receiver))
 
--- a pattern has a name, where it has one
-abbrev pub IsPattern : Pattern → Type 0
-IsPattern Any = Unit {0}
-IsPattern (Named name) = IsName name
+-- four texts are those of the parts of a rule
+pub record AreOfRule (place measurement mode receiver : List ℕ) (rule : Rule) : Type 0 where
+  pub place_is : IsPatternText place rule.place
+  pub measurement_is : IsPatternText measurement rule.measurement
+  pub mode_is : mode ≡ mode_text rule.mode
+  pub receiver_is : IsPatternText receiver rule.receiver
 
 -- the text is that of the rule
 pub record IsRuleText (text : List ℕ) (rule : Rule) : Type 0 where

@@ -1,22 +1,15 @@
 -- The rules of a release policy: which disclosures a rule is for, which rule decides over one, and what
 -- the modes allow. They are this project's own.
-use Rattle.std.specs.Prelude.{◌&&◌, ℕ, Bool, true, false, List, Option, None, Some, nat_eq, slice_get}
+use Rattle.std.specs.Prelude.{◌&&◌, ℕ, Bool, true, false, List, Option, None, Some, slice_get}
 use Rattle.std.specs.Option.{option_map_or}
-use Rattle.std.specs.Cmp.Lexicographic.{pointwise}
 use Rattle.phrase_tree.specs.Repeats.{first_index}
 use Rattle.release_policy.specs.declared.flow.Flow.{Flow}
 use Rattle.release_policy.specs.declared.held.Cover.{Cover}
 use Rattle.release_policy.specs.declared.held.Cover.TheVariants.{Bare, Sealed, Hashed}
 use Rattle.release_policy.specs.declared.rule.Mode.{Mode}
 use Rattle.release_policy.specs.declared.rule.Mode.TheVariants.{FromBare, FromSealed, FromHashed, Never}
-use Rattle.release_policy.specs.declared.rule.Pattern.{Pattern}
-use Rattle.release_policy.specs.declared.rule.Pattern.TheVariants.{Any, Named}
 use Rattle.release_policy.specs.declared.rule.Rule.{Rule}
-
--- a pattern matches every name, or one name alone
-abbrev pub matches : Pattern → List ℕ → Bool
-matches Any name = true
-matches (Named own) name = pointwise nat_eq own name
+use Rattle.release_policy.specs.Patterns.{matches}
 
 -- a rule is for a flow where each of its three patterns matches
 abbrev pub is_for : Flow → Rule → Bool

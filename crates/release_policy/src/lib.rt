@@ -16,7 +16,10 @@ mod evidence;
 mod flow;
 mod held;
 mod judge;
+mod laws;
+mod pattern;
 mod policy;
+mod reading;
 mod rule;
 mod walk;
 
@@ -24,4 +27,5 @@ pub use choosing::choose;
 pub use chosen::Choice;
 pub use denied::Denial;
 pub use denying::denial;
+pub use laws::{choice_law, reading_law, release_law};
 pub use policy::{RULES, ReleaseError, ReleasePolicy};

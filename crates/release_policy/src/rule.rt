@@ -1,16 +1,10 @@
-ghost use Rattle.std.specs.Prelude.{◌≡◌, ◌<◌, ◌^◌, length};
-ghost use Rattle.release_policy.specs.Rules.{allowed_by, allows, deciding, is_for, matches};
+ghost use Rattle.std.specs.Prelude.{◌≡◌, ◌<◌, ◌^◌, ◌∷◌, ◌++◌, [], length, OnOk};
+ghost use Rattle.release_policy.specs.Rules.{allowed_by, allows, deciding, is_for};
 
 use crate::flow::Flow;
 use crate::held::Cover;
-use phrase_tree::Name;
-
-/// Which names a rule is for.
-#[derive(Clone, Copy, Debug, PartialEq, Eq)]
-pub enum Pattern {
-    Any,
-    Named(Name),
-}
+use crate::pattern::Pattern;
+use phrase_tree::NoMemory;
 
 /// How well what a rule is for has to be covered.
 #[derive(Clone, Copy, Debug, PartialEq, Eq)]
@@ -33,17 +27,6 @@ pub struct Rule {
     pub measurement: Pattern,
     pub mode: Mode,
     pub receiver: Pattern,
-}
-
-impl Pattern {
-    fn matches(&self, name: &Name) -> bool
-        ensures { result ≡ matches self.now name.now }
-    {
-        match self {
-            Pattern::Any => true,
-            Pattern::Named(own) => *own == *name,
-        }
-    }
 }
 
 impl Mode {
@@ -103,4 +86,12 @@ pub(crate) fn allowed_by(rules: &[Rule], deciding: Option<u32>, cover: Cover) ->
             Some(rule) => rule.mode.allows(cover),
         },
     }
+}
+
+/// One more rule behind the others.
+pub(crate) fn add(rules: &mut Vec<Rule>, rule: Rule) -> Result<(), NoMemory>
+    ensures { OnOk result (rules.new.items ≡ rules.old.items ++ rule ∷ []) }
+{
+    rules.push(rule)?;
+    Ok(())
 }

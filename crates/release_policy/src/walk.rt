@@ -1,7 +1,6 @@
 ghost use Rattle.std.specs.Prelude.{◌≡◌, ◌<◌, ◌+◌, ◌^◌, None, IfOk, OnOk};
 ghost use Rattle.phrase_tree.specs.Term.{term, leaf, usm, at, seq};
 ghost use Rattle.phrase_tree.specs.Numbering.{event_count};
-
 ghost use Rattle.release_policy.specs.Walked.{first_denied, held_from, leaf_held, told_from, StopsAt};
 
 use crate::denied::Denial;
@@ -18,12 +17,7 @@ pub(crate) enum Stop {
 }
 
 /// One more measurement on what is held, and the number that follows its event.
-fn measure(
-    asp: &Asp,
-    place: &Place,
-    number: u32,
-    evidence: &mut Evidence,
-) -> Result<u32, Stop>
+fn measure(asp: &Asp, place: &Place, number: u32, evidence: &mut Evidence) -> Result<u32, Stop>
     requires { number + 1 < 2 ^ 32 }
     ensures memory { StopsAt None result }
     ensures next { IfOk result (λ next. next ≡ number + 1) }

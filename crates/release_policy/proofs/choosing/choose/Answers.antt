@@ -14,5 +14,5 @@ loop-checked-preserved c =
       denials =
           c.loop-checked.invariant.denials
           ∙ (ap (λ list. c.loop-checked.denials.items ++ list) on.denials
-              ∙ (sym (append_assoc c.loop-checked.denials.items (c.in-Some.found ∷ []) rest) ∙ ap (λ list. list ++ rest) (sym c.in_ok-push.ensures.items)));
+          ∙ (sym (append_assoc c.loop-checked.denials.items (c.in-Some.found ∷ []) rest) ∙ ap (λ list. list ++ rest) (sym c.in_ok-push.ensures.items)));
     }
