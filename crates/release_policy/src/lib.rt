@@ -21,6 +21,8 @@ mod pattern;
 mod policy;
 mod reading;
 mod rule;
+#[cfg(test)]
+mod tests;
 mod walk;
 
 pub use choosing::choose;
