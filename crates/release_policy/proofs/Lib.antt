@@ -8,3 +8,4 @@ pub mod ReleaseLaws
 pub mod RuleLemmas
 pub mod TextLemmas
 pub mod WalkLemmas
+mod WorkedReleases

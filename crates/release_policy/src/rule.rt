@@ -37,12 +37,10 @@ impl Mode {
             Mode::FromBare => true,
             Mode::FromSealed => match cover {
                 Cover::Bare => false,
-                Cover::Sealed => true,
-                Cover::Hashed => true,
+                Cover::Sealed | Cover::Hashed => true,
             },
             Mode::FromHashed => match cover {
-                Cover::Bare => false,
-                Cover::Sealed => false,
+                Cover::Bare | Cover::Sealed => false,
                 Cover::Hashed => true,
             },
             Mode::Never => false,

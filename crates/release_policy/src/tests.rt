@@ -152,7 +152,11 @@ fn the_first_denial_is_that_of_worked_policies(rt: HostRuntime) -> Result<(), Fa
     let alloc = rt.alloc();
     let sessions = six_sessions(&rt, alloc)?;
     for (text, index, want) in [
-        ("ks:kernel=seal>bank;us:scanner=seal>bank", 0, denied(9, 7, None)),
+        (
+            "ks:kernel=seal>bank;us:scanner=seal>bank",
+            0,
+            denied(9, 7, None),
+        ),
         ("ks:kernel=seal>bank;us:*=seal>*", 0, None),
         ("ks:kernel=hash>bank;*:*=bare>*", 0, denied(4, 2, Some(0))),
         ("*:*=none>*", 1, None),
@@ -162,7 +166,11 @@ fn the_first_denial_is_that_of_worked_policies(rt: HostRuntime) -> Result<(), Fa
         ("*:*=seal>*", 3, None),
         ("*:*=none>bank;*:*=bare>*", 3, denied(4, 1, Some(0))),
         ("q:scan=seal>*;*:*=bare>*", 4, denied(3, 2, Some(0))),
-        ("bank:*=bare>q;*:*=none>*;q:*=bare>*", 4, denied(3, 2, Some(1))),
+        (
+            "bank:*=bare>q;*:*=none>*;q:*=bare>*",
+            4,
+            denied(3, 2, Some(1)),
+        ),
         ("bank:a=none>bank;bank:a=bare>q;q:*=bare>*", 4, None),
         ("q:scan=hash>bank;bank:a=hash>q", 4, denied(1, 0, Some(1))),
         ("q:*=bare>*", 5, denied(1, 0, None)),
@@ -263,12 +271,7 @@ fn a_policy_has_at_most_256_rules(rt: HostRuntime) -> Result<(), Fail> {
 }
 
 /// `USM a -> CPY ..` with so many copies, in so many requests to `q`.
-fn enclosed(
-    rt: &impl Abort,
-    alloc: Global,
-    copies: u32,
-    requests: u32,
-) -> Result<Phrase, NoMemory>
+fn enclosed(rt: &impl Abort, alloc: Global, copies: u32, requests: u32) -> Result<Phrase, NoMemory>
     requires few { 1 + copies + 2 * requests ≤ EVENTS }
     requires nested { requests ≤ BRACKETS }
     ensures { IfOk result (λ phrase. IsSized (term phrase)) }
@@ -292,6 +295,9 @@ fn the_longest_and_the_deepest_phrases_are_judged(rt: HostRuntime) -> Result<(),
     let longest = session(&rt, &places, enclosed(&rt, alloc, 2047, 0)?)?;
     assert_eq!(rt; denial(alloc, &policy, &longest)?, None);
     let deepest = session(&rt, &places, enclosed(&rt, alloc, 1919, 64)?)?;
-    assert_eq!(rt; denial(alloc, &policy, &deepest)?, denied(2047, 64, Some(0)));
+    assert_eq!(rt;
+        denial(alloc, &policy, &deepest)?,
+        denied(2047, 64, Some(0))
+    );
     Ok(())
 }
