@@ -1,0 +1,20 @@
+//! Appraisal: whether a value is the one that is expected of a shape. A value that does not fit the shape is
+//! refused at the first node that does not; of one that fits there is a verdict for each nonce, answer, seal
+//! and hash. What lies under a hash is not in the value, so it is expected from the references alone. The
+//! rules are this project's own.
+//!
+//! Clauses see what a session is appraised by as a record: `Basis` of `specs/Expected.antt`.
+#![tactic(auto)]
+
+mod appraising;
+mod digesting;
+mod expecting;
+mod fitting;
+mod judging;
+mod marking;
+mod verdict;
+
+pub use appraising::{AppraiseError, appraise};
+pub use fitting::fits_at;
+pub use marking::marks_of;
+pub use verdict::{Verdict, VerdictOf, Verdicts};
