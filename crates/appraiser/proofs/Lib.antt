@@ -1,3 +1,4 @@
 mod ListLemmas
 mod WalkLemmas
 mod FitLemmas
+mod AcceptLemmas

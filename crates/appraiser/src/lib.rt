@@ -11,10 +11,12 @@ mod digesting;
 mod expecting;
 mod fitting;
 mod judging;
+mod laws;
 mod marking;
 mod verdict;
 
 pub use appraising::{AppraiseError, appraise};
 pub use fitting::fits_at;
+pub use laws::accepted_law;
 pub use marking::marks_of;
 pub use verdict::{Verdict, VerdictOf, Verdicts};
