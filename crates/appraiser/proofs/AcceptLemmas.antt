@@ -64,23 +64,23 @@ abbrev pub IsAmong : List Leaf → Leaf → Type 0
 IsAmong [] leaf = ⊥
 IsAmong (first ∷ rest) leaf = (first ≡ leaf) ⊎ IsAmong rest leaf
 
-either : {A B C D : Type 0} → (A → C) → (B → D) → A ⊎ B → C ⊎ D
+pub either : {A B C D : Type 0} → (A → C) → (B → D) → A ⊎ B → C ⊎ D
 either f g (inl a) = inl (f a)
 either f g (inr b) = inr (g b)
 
-out : {A B C : Type 0} → (A → C) → (B → C) → A ⊎ B → C
+pub out : {A B C : Type 0} → (A → C) → (B → C) → A ⊎ B → C
 out f g (inl a) = f a
 out f g (inr b) = g b
 
-among_left : (xs ys : List Leaf) (x : Leaf) → IsAmong xs x → IsAmong (xs ++ ys) x
+pub among_left : (xs ys : List Leaf) (x : Leaf) → IsAmong xs x → IsAmong (xs ++ ys) x
 among_left [] ys x h = absurd h
 among_left (first ∷ rest) ys x h = either (λ e. e) (among_left rest ys x) h
 
-among_right : (xs ys : List Leaf) (x : Leaf) → IsAmong ys x → IsAmong (xs ++ ys) x
+pub among_right : (xs ys : List Leaf) (x : Leaf) → IsAmong ys x → IsAmong (xs ++ ys) x
 among_right [] ys x h = h
 among_right (first ∷ rest) ys x h = inr (among_right rest ys x h)
 
-among_split : (xs ys : List Leaf) (x : Leaf) → IsAmong (xs ++ ys) x → IsAmong xs x ⊎ IsAmong ys x
+pub among_split : (xs ys : List Leaf) (x : Leaf) → IsAmong (xs ++ ys) x → IsAmong xs x ⊎ IsAmong ys x
 among_split [] ys x h = inr h
 among_split (first ∷ rest) ys x h = out (λ e. inl (inl e)) (λ k. either inr (λ j. j) (among_split rest ys x k)) h
 
@@ -89,7 +89,7 @@ contains_of [] x h = absurd h
 contains_of (first ∷ rest) x (inl e) = (0, omega arith, e)
 contains_of (first ∷ rest) x (inr h) = let c = contains_of rest x h in (suc c.0, omega (arith, c.1), c.2)
 
-among_of : (xs : List Leaf) (k : ℕ) (x : Leaf) → k < length xs → slice_index_or xs k x ≡ x → IsAmong xs x
+pub among_of : (xs : List Leaf) (k : ℕ) (x : Leaf) → k < length xs → slice_index_or xs k x ≡ x → IsAmong xs x
 among_of [] k x le e = absurd (omega (arith, le))
 among_of (first ∷ rest) zero x le e = inl e
 among_of (first ∷ rest) (suc k) x le e = inr (among_of rest k x (omega (arith, le)) e)

@@ -2,3 +2,5 @@ mod ListLemmas
 mod WalkLemmas
 mod FitLemmas
 mod AcceptLemmas
+mod SessionLemmas
+mod ShapeLemmas

@@ -5,7 +5,8 @@ use Rattle.evidence_types.specs.Evidence.{Evidence}
 use Rattle.evidence_types.specs.Shape.{Form}
 use Rattle.reference_book.specs.declared.reference.Reference.{Reference}
 use Rattle.reference_book.specs.Leaves.{Leaf, hashed_leaves}
-use Rattle.appraiser.specs.Expected.{reference_at}
+use Rattle.session_model.specs.Value.{Makings}
+use Rattle.appraiser.specs.Expected.{Basis, reference_at}
 use Rattle.appraiser.specs.Verdicts.{held, is_expected}
 
 -- the answer of a leaf's event
@@ -27,3 +28,7 @@ AreExpected references answers (leaf ∷ rest) =
 -- leaves of one event are one measurement, of one kind and at one place
 abbrev pub HaveOneEach : List Leaf → Type 0
 HaveOneEach leaves = (leaf other : Leaf) → Contains leaves leaf → Contains leaves other → leaf.event ≡ other.event → leaf ≡ other
+
+-- what a session that was run is appraised by: its own nonce and keys, and references
+abbrev pub basis_with : Makings → List Reference → Basis
+basis_with from references = record { nonce = from.nonce; keys = from.keys; references = references }
