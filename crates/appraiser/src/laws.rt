@@ -1,6 +1,6 @@
 //! Laws of appraisal, which the functions of this module carry. They do nothing.
 
-ghost use Rattle.std.specs.Prelude.{◌≡◌, ◌≤◌, ◌↔◌, ℕ, List, None, IsTrue, length};
+ghost use Rattle.std.specs.Prelude.{◌≡◌, ◌≤◌, ◌↔◌, ℕ, List, Option, None, IsTrue, length};
 ghost use Rattle.phrase_tree.specs.Events.{events_of};
 ghost use Rattle.phrase_tree.specs.Term.{Term};
 ghost use Rattle.evidence_types.specs.Evidence.{Evidence};
@@ -12,11 +12,18 @@ ghost use Rattle.place_check.specs.Session.{HaveKeys};
 ghost use Rattle.reference_book.specs.declared.reference.Reference.{Reference};
 ghost use Rattle.reference_book.specs.Leaves.{has_several, hashed_leaves, leaves, least_event};
 ghost use Rattle.session_model.specs.Value.{Makings, session_value};
-ghost use Rattle.appraiser.specs.Appraised.{CanAppraise, HasReferences, basis_of};
+ghost use Rattle.appraiser.specs.Appraised.{CanAppraise, HasMarks, HasReferences, basis_of};
 ghost use Rattle.appraiser.specs.Expected.{Basis, expected};
-ghost use Rattle.appraiser.specs.Fit.{CanMark};
+ghost use Rattle.appraiser.specs.Fit.{CanMark, FitsWith, misfit};
 ghost use Rattle.appraiser.specs.Laws.{AreExpected, HaveOneEach, answer_of, basis_with, chosen};
 ghost use Rattle.appraiser.specs.Verdicts.{all_good, verdicts};
+
+/// No node of a value is a misfit exactly if the value fits the shape, and its marks, if there are any, are the
+/// indices of the places of the shape's measurements.
+pub fn fits_law()
+    ensures { (places : List PlaceEntry) (value : Evidence) (marks : Option (List ℕ)) (shape : Form) →
+        HasMarks value marks → (misfit places value marks shape ≡ None) ↔ FitsWith places value marks shape }
+{}
 
 /// A value that fits a shape, of which each measurement has a reference and none under a hash has several, is
 /// accepted exactly if each answer that it chose is one of the references of its measurement, and it is

@@ -17,6 +17,6 @@ mod verdict;
 
 pub use appraising::{AppraiseError, appraise};
 pub use fitting::fits_at;
-pub use laws::{accepted_law, session_law, shape_law};
+pub use laws::{accepted_law, fits_law, session_law, shape_law};
 pub use marking::marks_of;
 pub use verdict::{Verdict, VerdictOf, Verdicts};
