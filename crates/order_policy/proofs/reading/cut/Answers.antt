@@ -1,0 +1,6 @@
+use Rattle.std.proofs.lemmas.Str.Pattern.{split_parts}
+use Rattle.order_policy.proofs.TextLaws.{cut_from}
+use Rattle.order_policy.proofs.reading.cut.Goals as goal
+
+pub returns : goal.returns
+returns c = cut_from c.args.mark c.args.text.now c.split_once.result (split_parts c.args.mark c.args.text.now c.split_once.result c.split_once.ensures.cases c.requires)
