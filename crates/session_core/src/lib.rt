@@ -16,6 +16,8 @@ mod played;
 mod playing;
 mod reading;
 mod reading_laws;
+#[cfg(test)]
+mod run_table;
 mod session;
 mod steps;
 mod telling;

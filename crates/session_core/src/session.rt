@@ -15,6 +15,9 @@ ghost use Rattle.session_core.specs.Reading.{word_of, HasStopped, question_of, r
 ghost use Rattle.session_core.specs.Touching.{IsTouchOf, IsMessageOf, IsImpossible};
 ghost use Rattle.session_core.specs.Session.{IsItem, with_entry, session_in, keys_in, places_in, history, StandsAt, IsAwaited, IsJustOpened};
 
+#[cfg(test)]
+mod run_tests;
+
 use crate::opened::Opened;
 use crate::played::{OutcomeError, PlayError, Played, RecordError, Touch};
 use crate::steps::Core;
