@@ -1,9 +1,12 @@
-//! The core of a session: its machines, its possible moves, and what it keeps of its history. It knows no
-//! bench, and holds no reference.
+//! Sessions that are run. A `Session` is opened over a bench with a session that was checked, its places
+//! and the artefacts. Each move and each result that can come next is one more entry of its history, which
+//! is legal at every moment. It is a chronicle of `turn_cell`: what it was opened with, and its entries.
 //!
-//! A core is one of a session, with keys, among places, after the history of its book (`IsCore` of
-//! `specs/Core.antt`). Each step requires that its entry can come next, appends it, and keeps the core one
-//! of that session. All room is taken when a core is opened, and no step takes memory.
+//! Below it stands its `Core`: the machines, the possible moves, and what is kept of the history. It knows
+//! no bench, and holds no reference. A core is one of a session, with keys, among places, after the history
+//! of its book (`IsCore` of `specs/Core.antt`). Each step requires that its entry can come next, appends
+//! it, and keeps the core one of that session. All room is taken when a core is opened, and no step takes
+//! memory.
 #![tactic(auto)]
 
 mod chronicle;
