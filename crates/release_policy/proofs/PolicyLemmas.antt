@@ -1,11 +1,11 @@
 -- The rules of a policy's text, part by part.
-use Rattle.std.proofs.Common.{◌≡◌, ◌≤◌, ℕ, List, [], ◌∷◌, ◌++◌, length, map, refl, ap, sym, ◌∙◌, ◌<◌, subst, append_assoc, append-nil, Option, None, Some, Bor}
+use Rattle.std.proofs.Common.{◌≡◌, ◌≤◌, ℕ, List, [], ◌∷◌, ◌++◌, ◌+◌, length, map, refl, arith, length-append, ap, sym, ◌∙◌, ◌<◌, subst, append_assoc, append-nil, Option, None, Some, Bor}
 use Rattle.std.specs.Prelude.{MatchOption}
 use Rattle.std.proofs.lemmas.List.{map-append}
 use Rattle.release_policy.specs.declared.policy.TheConstants.{RULES}
 use Rattle.release_policy.specs.declared.rule.Rule.{Rule}
 use Rattle.release_policy.specs.Parts.{AddsRule}
-use Rattle.release_policy.specs.PolicyText.{AreRuleTexts, IsPolicyText, IsRuleText, parts, rule_text}
+use Rattle.release_policy.specs.PolicyText.{AreRuleTexts, HasPolicy, IsPolicyText, IsRuleText, parts, rule_text}
 
 -- what was read of a text
 pub record IsReadSoFar (text left : List ℕ) (rules : List Rule) : Type 0 where
@@ -46,6 +46,34 @@ read_whole text left part old new so next adds = record {
   rules = subst (λ texts. AreRuleTexts texts new) (sym (split_more text left old new part [] adds.rule so.split next adds.is.spelled adds.added ∙ append-nil (map rule_text new))) (ruled_new old new part adds.rule so.ruled adds.is adds.added);
   few = adds.few;
 }
+
+-- so many rules were read of a text
+pub record HasRead (text left : List ℕ) (number : ℕ) : Type 0 where
+  pub rules : List Rule
+  pub counted : number ≡ length rules
+  pub so_far : IsReadSoFar text left rules
+
+one_more : (rules : List Rule) (part : List ℕ) (rule : Rule) (number : ℕ) → number ≡ length rules → number ≤ RULES → (number ≡ RULES → ⊥) → IsRuleText part rule → AddsRule rules part (rules ++ rule ∷ [])
+one_more rules part rule number counted few other is = record {
+  rule = rule;
+  is = is;
+  added = refl;
+  few = omega (arith, counted, few, other, length-append rules (rule ∷ []));
+}
+
+pub read_next : (text left rest part : List ℕ) (number : ℕ) (rule : Rule) → HasRead text left number → (number ≡ RULES → ⊥) → parts left ≡ part ∷ parts rest → IsRuleText part rule → HasRead text rest (number + 1)
+read_next text left rest part number rule has other next is =
+    let few : number ≤ RULES = omega (arith, has.counted, has.so_far.few) in
+    record {
+      rules = has.rules ++ rule ∷ [];
+      counted = omega (arith, has.counted, length-append has.rules (rule ∷ []));
+      so_far = read_more text left rest part has.rules (has.rules ++ rule ∷ []) has.so_far next (one_more has.rules part rule number has.counted few other is);
+    }
+
+pub read_last : (text left part : List ℕ) (number : ℕ) (rule : Rule) → HasRead text left number → (number ≡ RULES → ⊥) → parts left ≡ part ∷ [] → IsRuleText part rule → HasPolicy text
+read_last text left part number rule has other next is =
+    let few : number ≤ RULES = omega (arith, has.counted, has.so_far.few) in
+    (has.rules ++ rule ∷ [], read_whole text left part has.rules (has.rules ++ rule ∷ []) has.so_far next (one_more has.rules part rule number has.counted few other is))
 
 -- what the first part of a text leaves
 pub front_some : (text part : List ℕ) (result : Option (Bor (List ℕ))) (rest : Bor (List ℕ)) → result ≡ Some rest → MatchOption result (parts text ≡ part ∷ []) (λ rest. (parts text ≡ part ∷ parts rest.now) × (length rest.now < length text)) → parts text ≡ part ∷ parts rest.now

@@ -29,6 +29,7 @@ denial_of policy disclosure =
 abbrev pub denials : List Rule → Session → List Denial
 denials policy session = filter_map (denial_of policy) (disclosures session)
 
+-- the first of these
 abbrev pub first_denial : List Rule → Session → Option Denial
 first_denial policy session = first (denials policy session)
 

@@ -8,6 +8,7 @@ use Rattle.release_policy.specs.declared.rule.Mode.TheVariants.{FromBare, FromSe
 use Rattle.release_policy.specs.declared.rule.Rule.{Rule}
 use Rattle.release_policy.specs.Patterns.{IsPattern, IsPatternText, pattern_text}
 
+-- the word for a mode
 abbrev pub mode_text : Mode → List ℕ
 mode_text FromBare = codes "bare"
 mode_text FromSealed = codes "seal"
@@ -53,6 +54,10 @@ parts (byte ∷ rest) = if byte == 59 then [] ∷ parts rest else with_front byt
 pub record IsPolicyText (text : List ℕ) (policy : List Rule) : Type 0 where
   pub rules : AreRuleTexts (parts text) policy
   pub few : length policy ≤ RULES
+
+-- a text is that of some policy
+abbrev pub HasPolicy : List ℕ → Type 0
+HasPolicy text = (policy : List Rule) × IsPolicyText text policy
 
 -- the first part of a text that can't be a rule of a policy: it is no text of a rule, or 256 rules stand
 -- before it

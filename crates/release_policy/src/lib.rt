@@ -31,3 +31,4 @@ pub use denied::Denial;
 pub use denying::denial;
 pub use laws::{choice_law, reading_law, release_law};
 pub use policy::{RULES, ReleaseError, ReleasePolicy};
+pub use reading::bad_part;

@@ -1,5 +1,5 @@
 ghost use Rattle.std.specs.Prelude.{◌≡◌, ◌≢◌, ◌<◌, ◌≤◌, ◌∷◌, ◌++◌, [], ℕ, List, Option, length, MatchOption};
-ghost use Rattle.release_policy.specs.PolicyText.{AreOfRule, IsReading, IsRuleText, mode_text, parts};
+ghost use Rattle.release_policy.specs.PolicyText.{AreOfRule, HasPolicy, IsBadPart, IsReading, IsRuleText, mode_text, parts};
 ghost use Rattle.release_policy.specs.Parts.{IsReadingOf, TakesPart};
 ghost use Rattle.release_policy.specs.Cuts.{HasNone, IsCut};
 ghost use Rattle.release_policy.specs.declared.rule.Mode.{Mode};
@@ -139,6 +139,29 @@ fn rules_of(alloc: Global, text: &str) -> Result<Vec<Rule>, ReleaseError>
         match behind {
             Some(rest) => left = rest,
             None => return Ok(rules),
+        }
+    }
+}
+
+/// The part of a text that `ReleasePolicy::read` would name as bad; none exactly if the text is that of a
+/// policy. Takes no memory, and time linear in the text.
+pub fn bad_part(text: &str) -> Option<u32>
+    ensures { MatchOption result (HasPolicy text.now) (IsBadPart text.now) }
+{
+    let mut left = text;
+    let mut number = 0;
+    'parts: loop {
+        let (part, behind) = front(left);
+        if number == RULES {
+            return Some(number);
+        }
+        match rule_of(part) {
+            Some(_) => number += 1,
+            None => return Some(number),
+        }
+        match behind {
+            Some(rest) => left = rest,
+            None => return None,
         }
     }
 }

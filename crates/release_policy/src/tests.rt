@@ -216,6 +216,13 @@ fn fault_of(alloc: Global, text: &str) -> Option<ReleaseError> {
     }
 }
 
+fn fault_without_memory(text: &str) -> Option<ReleaseError> {
+    match bad_part(text) {
+        None => None,
+        Some(rule) => refused(rule),
+    }
+}
+
 // Which texts are policies was computed by another program, and which part is the first bad one by hand.
 #[test]
 fn texts_are_read_or_refused_at_their_first_bad_part(rt: HostRuntime) -> Result<(), Fail> {
@@ -246,6 +253,7 @@ fn texts_are_read_or_refused_at_their_first_bad_part(rt: HostRuntime) -> Result<
         ("*:*=sealed>*", refused(0)),
     ] {
         assert_eq!(rt; fault_of(alloc, text), want, "{text}");
+        assert_eq!(rt; fault_without_memory(text), want, "{text}");
     }
     Ok(())
 }
@@ -266,6 +274,11 @@ fn a_policy_has_at_most_256_rules(rt: HostRuntime) -> Result<(), Fail> {
         }
         text.push_str(last)?;
         assert_eq!(rt; fault_of(alloc, text.as_str()), want, "{rules} and {last}");
+        assert_eq!(rt;
+            fault_without_memory(text.as_str()),
+            want,
+            "{rules} and {last}"
+        );
     }
     Ok(())
 }
