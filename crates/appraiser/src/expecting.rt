@@ -19,7 +19,7 @@ use std::alloc::Global;
 
 /// What a session is appraised by.
 #[derive(Clone, Copy)]
-pub(crate) struct Given<'a> {
+pub struct Given<'a> {
     pub places: &'a Places,
     pub references: &'a References,
     pub nonce: &'a [u8; 16],
@@ -139,9 +139,10 @@ fn make(given: &Given<'_>, shape: &Shape, made: &mut FrontBytes) -> Result<(), N
     }
 }
 
-/// The hash of the value that is expected of a shape. Its bytes are made from their end to their front, so
-/// each seal and each hash in it is one run over what stands behind it.
-pub(crate) fn hash_of_expected(
+/// The hash of the value that is expected of a shape, on the first reference of each measurement. Its bytes
+/// are made in one block of memory from their end to their front, so each seal and each hash in it is one run
+/// over what stands behind it.
+pub fn hash_of_expected(
     alloc: Global,
     given: &Given<'_>,
     shape: &Shape,

@@ -32,8 +32,8 @@ fn behind_first(marks: &[u8]) -> &[u8]
     }
 }
 
-/// Whether a mark, if there is one, is the index of the place.
-fn is_mark(places: &Places, mark: Option<u8>, place: Place) -> bool
+/// Whether a mark, if there is one, is the index of the place. Each place is looked at in turn. Takes no memory.
+pub fn is_mark(places: &Places, mark: Option<u8>, place: Place) -> bool
     ensures { result ≡ is_mark places.now mark place }
 {
     let Some(mark) = mark else {

@@ -6,7 +6,9 @@ ghost use Rattle.evidence_types.specs.Shape.{Fits, form};
 ghost use Rattle.appraiser.specs.Expected.{HasKeys, expected, reference_at};
 ghost use Rattle.appraiser.specs.Given.{basis_in};
 ghost use Rattle.appraiser.specs.Holding.{pair_of};
-ghost use Rattle.appraiser.specs.Verdicts.{held, is_expected, is_good_answer, same, verdict, verdicts_under};
+ghost use Rattle.appraiser.specs.Verdicts.{held, is_good_answer, same, verdict, verdicts_under};
+ghost use Rattle.reference_book.specs.References.{answers_for};
+ghost use Rattle.std.specs.List.{list_any};
 ghost use Rattle.seal_hmac.specs.Keys.{key_of, key_at};
 ghost use Rattle.seal_hmac.specs.Seal.{seal_of, hash_of};
 
@@ -74,16 +76,16 @@ fn first_held<'a>(list: &[Held<'a>], event: u32) -> &'a [u8]
     &[]
 }
 
-/// Whether an answer is one of the references for a measurement.
-fn is_expected(
+/// Whether an answer is one of the references for a measurement. It is compared with each of them in turn.
+/// Takes no memory.
+pub fn is_expected(
     references: &References,
-    event: u32,
     place: Place,
     kind: &AskKind,
     asp: &Asp,
     answer: &[u8],
 ) -> bool
-    ensures { result ≡ is_expected references.now (record { event = event; place = place; kind = kind.now; asp = asp.now }) answer.now }
+    ensures { result ≡ list_any (λ other. same other answer.now) (answers_for references.now place kind.now asp.now) }
 {
     for index in 0..references.count(place, kind, asp) {
         let Some(other) = references.nth(place, kind, asp, index) else {
@@ -108,8 +110,7 @@ fn is_good_answer(
 ) -> bool
     ensures { result ≡ is_good_answer given.now.references.now (map pair_of firsts.now) (record { event = event; place = place; kind = kind.now; asp = asp.now }) answer.now }
 {
-    is_expected(given.references, event, place, kind, asp, answer)
-        && answer == first_held(firsts, event)
+    is_expected(given.references, place, kind, asp, answer) && answer == first_held(firsts, event)
 }
 
 /// Whether a seal is that of a place over a value.

@@ -13,10 +13,14 @@ mod fitting;
 mod judging;
 mod laws;
 mod marking;
+#[cfg(test)]
+mod tests;
 mod verdict;
 
 pub use appraising::{AppraiseError, appraise};
-pub use fitting::fits_at;
+pub use expecting::{Given, hash_of_expected};
+pub use fitting::{fits_at, is_mark};
+pub use judging::is_expected;
 pub use laws::{accepted_law, fits_law, session_law, shape_law};
 pub use marking::marks_of;
 pub use verdict::{Verdict, VerdictOf, Verdicts};

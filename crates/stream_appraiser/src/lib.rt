@@ -1,0 +1,15 @@
+//! Appraisal of a bundle that comes in pieces: however it is cut, what comes out is what decoding the whole and
+//! appraising its value gives. No value is built: the position in the shape, the open seals, the answers and the
+//! verdicts so far are kept, and the bytes of one head.
+#![tactic(auto)]
+
+mod error;
+mod forms;
+mod laws;
+mod seals;
+mod stream;
+mod walk;
+
+pub use error::StreamError;
+pub use laws::heads_law;
+pub use stream::StreamAppraiser;
