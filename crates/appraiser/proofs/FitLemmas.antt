@@ -9,7 +9,7 @@ use Rattle.place_check.specs.declared.entry.PlaceEntry.{PlaceEntry}
 use Rattle.place_check.specs.Places.{place_index}
 use Rattle.reference_book.specs.Leaves.{Leaf}
 use Rattle.appraiser.specs.Appraised.{HasMarks}
-use Rattle.appraiser.specs.Fit.{FitsWith, agrees, is_index, is_mark, misfit, misfit_from, marks_in, nodes, outer_leaves}
+use Rattle.appraiser.specs.Fit.{AreMarksOf, FitsWith, agrees, is_index, is_mark, misfit, misfit_from, marks_in, nodes, outer_leaves}
 use Rattle.appraiser.specs.Walked.{Passes, Stops}
 use Rattle.appraiser.proofs.WalkLemmas.{passes_both, passes_one, passes_then}
 
@@ -310,3 +310,10 @@ no_misfit places value None shape f = whole_passes places value no_marks shape (
 no_misfit places value (Some marks) shape f =
     whole_passes places value marks shape
     (passes places 0 value marks shape f.0 (carries_some places value marks shape f.0 (record { behind = []; is = f.1 ∙ sym (append-nil (indices places shape)) })))
+
+-- marks that are the indices are one for each measurement, and are no misfit
+pub marks_fit : (places : List PlaceEntry) (value : Evidence) (marks : List ℕ) (shape : Form) → Fits value shape → AreMarksOf places shape marks → (length marks ≡ measurements value) × (misfit places value (Some marks) shape ≡ None)
+marks_fit places value marks shape f m =
+    let count : length marks ≡ length (outer_leaves shape) =
+    sym (length-map marks (λ (mark : ℕ). Some mark)) ∙ ap length m ∙ length-map (outer_leaves shape) (λ (x : Leaf). place_index places x.place) in
+    (count ∙ sym (leaf_count_is value shape f), no_misfit places value (Some marks) shape (f, m))

@@ -1,9 +1,10 @@
 //! Laws of appraisal, which the functions of this module carry. They do nothing.
 
-ghost use Rattle.std.specs.Prelude.{◌≡◌, ◌≤◌, ◌↔◌, ℕ, List, Option, None, IsTrue, length};
+ghost use Rattle.std.specs.Prelude.{◌≡◌, ◌≤◌, ◌↔◌, ℕ, List, Option, None, Some, IsTrue, length};
 ghost use Rattle.phrase_tree.specs.Events.{events_of};
 ghost use Rattle.phrase_tree.specs.Term.{Term};
 ghost use Rattle.evidence_types.specs.Evidence.{Evidence};
+ghost use Rattle.evidence_types.specs.Marked.{measurements};
 ghost use Rattle.evidence_types.specs.Measure.{IsLight};
 ghost use Rattle.evidence_types.specs.Shape.{Fits, Form, shape_at};
 ghost use Rattle.place_check.specs.declared.entry.PlaceEntry.{PlaceEntry};
@@ -14,15 +15,18 @@ ghost use Rattle.reference_book.specs.Leaves.{has_several, hashed_leaves, leaves
 ghost use Rattle.session_model.specs.Value.{Makings, session_value};
 ghost use Rattle.appraiser.specs.Appraised.{CanAppraise, HasMarks, HasReferences, basis_of};
 ghost use Rattle.appraiser.specs.Expected.{Basis, expected};
-ghost use Rattle.appraiser.specs.Fit.{CanMark, FitsWith, misfit};
+ghost use Rattle.appraiser.specs.Fit.{AreMarksOf, CanMark, FitsWith, misfit};
 ghost use Rattle.appraiser.specs.Laws.{AreExpected, HaveOneEach, answer_of, basis_with, chosen};
 ghost use Rattle.appraiser.specs.Verdicts.{all_good, verdicts};
 
 /// No node of a value is a misfit exactly if the value fits the shape, and its marks, if there are any, are the
-/// indices of the places of the shape's measurements.
+/// indices of the places of the shape's measurements. With these marks a value that fits is no misfit either, so
+/// its bundles of both versions have the same verdicts, which don't depend on marks.
 pub fn fits_law()
-    ensures { (places : List PlaceEntry) (value : Evidence) (marks : Option (List ℕ)) (shape : Form) →
+    ensures fits { (places : List PlaceEntry) (value : Evidence) (marks : Option (List ℕ)) (shape : Form) →
         HasMarks value marks → (misfit places value marks shape ≡ None) ↔ FitsWith places value marks shape }
+    ensures marked { (places : List PlaceEntry) (value : Evidence) (marks : List ℕ) (shape : Form) →
+        Fits value shape → AreMarksOf places shape marks → (length marks ≡ measurements value) × (misfit places value (Some marks) shape ≡ None) }
 {}
 
 /// A value that fits a shape, of which each measurement has a reference and none under a hash has several, is

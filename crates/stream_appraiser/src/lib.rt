@@ -8,6 +8,8 @@ mod forms;
 mod laws;
 mod seals;
 mod stream;
+#[cfg(test)]
+mod tests;
 mod walk;
 
 pub use error::StreamError;
