@@ -1,3 +1,4 @@
 mod RunLemmas
 mod OpenLemmas
 mod FedLemmas
+mod UpgradeLemmas
