@@ -9,7 +9,7 @@ use Rattle.place_check.specs.declared.entry.PlaceEntry.{PlaceEntry}
 use Rattle.place_check.specs.Places.{place_index}
 use Rattle.reference_book.specs.Leaves.{Leaf}
 use Rattle.appraiser.specs.Appraised.{HasMarks}
-use Rattle.appraiser.specs.Fit.{AreMarksOf, FitsWith, agrees, is_index, is_mark, misfit, misfit_from, marks_in, nodes, outer_leaves}
+use Rattle.appraiser.specs.Fit.{AreMarksOf, FitsWith, is_index, is_mark, misfit, misfit_from, marks_in, nodes, outer_leaves}
 use Rattle.appraiser.specs.Walked.{Passes, Stops}
 use Rattle.appraiser.proofs.WalkLemmas.{passes_both, passes_one, passes_then}
 

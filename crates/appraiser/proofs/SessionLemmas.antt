@@ -2,7 +2,7 @@
 use Rattle.std.proofs.Common.{◌≡◌, ◌+◌, ℕ, Bool, true, false, List, None, refl, ap, ◌∙◌, sym, subst, IsTrue}
 use Rattle.phrase_tree.specs.Term.{Term, cpy, sig, hsh, nul, usm, kim, leaf, at, chain, seq, par}
 use Rattle.phrase_tree.specs.Numbering.{event_count}
-use Rattle.evidence_types.specs.Evidence.{Evidence, nonce, seq_pair, par_pair}
+use Rattle.evidence_types.specs.Evidence.{Evidence, seq_pair, par_pair}
 use Rattle.evidence_types.specs.Shape.{Form, arm_shape, shape_at, shape_from, the_nonce}
 use Rattle.reference_book.specs.declared.reference.Reference.{Reference}
 use Rattle.reference_book.specs.Leaves.{has_several, hashed_leaves, leaves, least_event}

@@ -1,7 +1,7 @@
 -- The shape of a phrase: its leaves are measurements of the phrase, each of an event of its own; and values can be
 -- appraised by it.
-use Rattle.std.proofs.Common.{◌≡◌, ◌+◌, ◌<◌, ◌≤◌, ◌^◌, ◌⊎◌, inl, inr, ℕ, zero, suc, Bool, true, false, List, [], ◌∷◌, ◌++◌, length, length-append, refl, sym, ap, ◌∙◌, arith, subst, IsTrue, Option, None, Some, nat_eq, if◌then◌else◌}
-use Rattle.std.specs.Prelude.{is_some, IsSome}
+use Rattle.std.proofs.Common.{◌≡◌, ◌+◌, ◌<◌, ◌≤◌, ◌^◌, ◌⊎◌, inl, inr, ℕ, Bool, true, false, List, [], ◌∷◌, ◌++◌, length, length-append, sym, ◌∙◌, arith, subst, IsTrue, Some, nat_eq, if◌then◌else◌}
+use Rattle.std.specs.Prelude.{is_some}
 use Rattle.std.specs.Cmp.Lexicographic.{pointwise}
 use Rattle.phrase_tree.specs.Term.{Term, cpy, sig, hsh, nul, usm, kim, leaf, at, chain, seq, par}
 use Rattle.phrase_tree.specs.Numbering.{event_count}
@@ -9,7 +9,7 @@ use Rattle.phrase_tree.specs.Events.{Event, event, events_of, replies, joins}
 use Rattle.phrase_tree.specs.Repeats.{index_from}
 use Rattle.bench_trait.specs.declared.ask.AskKind.TheVariants.{Usm, Kim}
 use Rattle.evidence_types.specs.declared.measure.Measure.TheVariants.{Weight}
-use Rattle.evidence_types.specs.Measure.{IsLight, StaysWithin, count_after, limit, measure, of_nonce}
+use Rattle.evidence_types.specs.Measure.{IsLight, count_after, measure}
 use Rattle.evidence_types.specs.Shape.{Form, nothing, the_nonce, measured, measured_at, sealed, hashed, in_sequence, in_parallel, arm_shape, shape_at, shape_from}
 use Rattle.evidence_types.proofs.ShapeLemmas.{of_shape_from}
 use Rattle.evidence_types.proofs.WithinLemmas.{count_after-within, light_stays}

@@ -1,5 +1,5 @@
 -- A value that fits the shape of a light phrase has few measurements, so its marks fit a bundle.
-use Rattle.std.proofs.Common.{◌≡◌, ◌+◌, ◌*◌, ◌≤◌, ℕ, List, [], length, sym, ap, ◌∙◌, arith}
+use Rattle.std.proofs.Common.{◌≡◌, ◌+◌, ◌*◌, ◌≤◌, ℕ, List, [], length, ap, arith}
 use Rattle.phrase_tree.specs.Term.{Term}
 use Rattle.evidence_types.specs.declared.measure.Measure.TheVariants.{Weight}
 use Rattle.evidence_types.specs.Bytes.{FitsBundle, encoding}
