@@ -1,5 +1,5 @@
 -- The first denials before a session of which nothing is denied, session by session.
-use Rattle.std.proofs.Common.{◌≡◌, ◌+◌, ℕ, Bool, true, false, cond, List, [], ◌∷◌, ◌++◌, Option, None, Some, map, refl, ap, sym, ◌∙◌, ◌<◌, suc, take, drop, get_or, length, add-one, one-add}
+use Rattle.std.proofs.Common.{◌≡◌, ◌+◌, ℕ, Bool, true, false, cond, List, [], ◌∷◌, Option, None, Some, map, refl, ap, sym, ◌∙◌, ◌<◌, suc, take, drop, get_or, length, add-one, one-add}
 use Rattle.std.specs.Prelude.{is_none, is_some}
 use Rattle.std.proofs.Math.Seq.{drop-cons}
 use Rattle.place_check.specs.Session.{CheckedSession, session_of}

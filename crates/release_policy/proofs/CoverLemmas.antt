@@ -3,7 +3,6 @@ use Rattle.std.proofs.Common.{◌≡◌, ◌+◌, ℕ, Bool, true, false, List, 
 use Rattle.std.proofs.lemmas.List.{map-append}
 use Rattle.phrase_tree.specs.declared.phrase.Phrase.{Phrase}
 use Rattle.phrase_tree.specs.Term.{Term, Leaf, cpy, sig, hsh, nul, usm, kim, leaf, at, chain, seq, par, term}
-use Rattle.phrase_tree.specs.declared.phrase.Split.{Split}
 use Rattle.phrase_tree.specs.Numbering.{event_count}
 use Rattle.evidence_types.specs.Shape.{Form, nothing, the_nonce, measured, measured_at, sealed, hashed, in_sequence, in_parallel, arm_shape, leaf_shape, shape_from}
 use Rattle.release_policy.specs.declared.held.Cover.{Cover}
@@ -14,7 +13,7 @@ use Rattle.session_model.specs.Session.{Session}
 use Rattle.release_policy.specs.declared.rule.Rule.{Rule}
 use Rattle.release_policy.specs.Denials.{first_denial}
 use Rattle.release_policy.specs.Covered.{covered, held, measurements, under_seal}
-use Rattle.release_policy.specs.Disclosures.{Disclosure, disclosed, disclosures_from}
+use Rattle.release_policy.specs.Disclosures.{disclosed, disclosures_from}
 use Rattle.release_policy.specs.Walked.{arm_held, first_denied, hash_held, held_from, leaf_held, seal_held, told_from}
 
 of_both : (f : Held → Held) (xs ys xs' ys' : List Held) → map f xs ≡ xs' → map f ys ≡ ys' → map f (xs ++ ys) ≡ xs' ++ ys'

@@ -1,5 +1,5 @@
 -- What was decided before agrees with the rules, also after one more decision.
-use Rattle.std.proofs.Common.{◌≡◌, ℕ, Bool, true, false, cond, List, Option, None, Some, refl, ap, sym, ◌∙◌}
+use Rattle.std.proofs.Common.{◌≡◌, ℕ, Bool, true, false, cond, List, Option, Some, refl, ap, sym, ◌∙◌}
 use Rattle.std.specs.HashMap.{get}
 use Rattle.release_policy.specs.declared.flow.Flow.{Flow}
 use Rattle.release_policy.specs.declared.rule.Rule.{Rule}

@@ -1,5 +1,5 @@
 -- Lists of measurements that are kept in reverse.
-use Rattle.std.proofs.Common.{◌≡◌, List, [], ◌∷◌, ◌++◌, map, refl, ap, sym, ◌∙◌}
+use Rattle.std.proofs.Common.{◌≡◌, List, [], ◌∷◌, map, refl, ap, ◌∙◌}
 use Rattle.std.specs.Prelude.{reverse}
 use mathlib.Core.List.{reverse_aux}
 

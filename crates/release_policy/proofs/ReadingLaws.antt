@@ -1,15 +1,14 @@
 -- A text is that of one policy, or has one first part that is bad.
-use Rattle.std.proofs.Common.{◌≡◌, ◌==◌, ◌<◌, ◌≤◌, ℕ, suc, Bool, true, false, cond, List, [], ◌∷◌, ◌++◌, ◌⊎◌, inl, inr, length, Option, None, Some, refl, ap, sym, ◌∙◌, subst, arith}
+use Rattle.std.proofs.Common.{◌≡◌, ◌==◌, ◌<◌, ◌≤◌, ℕ, Bool, true, false, cond, List, [], ◌∷◌, ◌++◌, ◌⊎◌, inl, inr, length, Option, None, Some, refl, ap, sym, ◌∙◌, subst, arith}
 use Rattle.std.specs.List.{join_with_byte}
 use Rattle.std.proofs.lemmas.Bool.{cases_lt, eqb-true}
 use Rattle.phrase_tree.specs.Name.{IsName}
-use Rattle.release_policy.specs.declared.policy.TheConstants.{RULES}
 use Rattle.release_policy.specs.declared.rule.Mode.{Mode}
 use Rattle.release_policy.specs.declared.rule.Mode.TheVariants.{FromBare, FromSealed, FromHashed, Never}
 use Rattle.release_policy.specs.declared.rule.Rule.{Rule}
 use Rattle.release_policy.specs.Patterns.{IsPattern, pattern_text}
 use Rattle.release_policy.specs.PolicyText.{AreRuleTexts, IsBadPart, IsPolicyText, IsRuleText, mode_text, parts, with_front}
-use Rattle.release_policy.proofs.RuleLemmas.{SameParts, same_parts}
+use Rattle.release_policy.proofs.RuleLemmas.{same_parts}
 
 -- a text is that of one rule
 no_star : (name : List ℕ) → IsName name → 42 ∷ [] ≡ name → ⊥

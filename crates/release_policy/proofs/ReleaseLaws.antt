@@ -1,18 +1,17 @@
 -- What is not denied is released, and what a choice says of each session.
-use Rattle.std.proofs.Common.{◌≡◌, ◌&&◌, ◌||◌, ◌<◌, ◌+◌, ◌⊎◌, inl, inr, ℕ, zero, suc, Bool, true, false, cond, List, [], ◌∷◌, length, Option, None, Some, nat_eq, slice_get, refl, ap, sym, ◌∙◌, subst, arith}
-use Rattle.std.specs.Prelude.{is_none, is_some, unwrap_or}
-use Rattle.std.specs.List.{AllByRecursion, cons_option, filter_map, take_while}
+use Rattle.std.proofs.Common.{◌≡◌, ◌||◌, ◌<◌, ◌+◌, inl, inr, ℕ, zero, suc, Bool, true, false, cond, List, [], ◌∷◌, length, Option, None, Some, slice_get, refl, ap, sym, ◌∙◌, subst, arith}
+use Rattle.std.specs.Prelude.{is_none, unwrap_or}
+use Rattle.std.specs.List.{AllByRecursion, cons_option, filter_map}
 use Rattle.std.specs.Option.{option_map_or}
-use Rattle.std.specs.Cmp.Lexicographic.{bytes_decides, pointwise}
+use Rattle.std.specs.Cmp.Lexicographic.{bytes_decides}
 use Rattle.phrase_tree.specs.Repeats.{first_index, index_from}
 use Rattle.place_check.specs.Rules.{first}
 use Rattle.session_model.specs.Session.{Session}
 use Rattle.release_policy.specs.declared.chosen.Choice.{Choice}
 use Rattle.release_policy.specs.declared.denied.Denial.{Denial}
-use Rattle.release_policy.specs.declared.held.Cover.{Cover}
 use Rattle.release_policy.specs.declared.rule.Rule.{Rule}
 use Rattle.release_policy.specs.Choices.{Chooses, is_free}
-use Rattle.release_policy.specs.Denials.{IsAllowedBy, IsReleased, denial_of, first_denial, is_allowed, is_at_home}
+use Rattle.release_policy.specs.Denials.{IsReleased, denial_of, first_denial, is_allowed, is_at_home}
 use Rattle.release_policy.specs.Disclosures.{Disclosure, disclosures, flow_of}
 use Rattle.release_policy.specs.Rules.{allowed_by, allows, deciding, is_for}
 use Rattle.release_policy.proofs.ChoiceLemmas.{before_free, denied_more, first_free, free_here}

@@ -1,8 +1,8 @@
 -- The text of a rule is cut into those of its parts in one way.
-use Rattle.std.proofs.Common.{◌≡◌, ◌&&◌, ◌||◌, ◌==◌, ◌<◌, ◌≤◌, ℕ, zero, suc, Bool, true, false, List, [], ◌∷◌, ◌++◌, length, Option, None, Some, nat_le, refl, ap, sym, ◌∙◌, subst, arith}
+use Rattle.std.proofs.Common.{◌≡◌, ◌&&◌, ◌||◌, ◌==◌, ℕ, zero, suc, Bool, true, false, List, [], ◌∷◌, ◌++◌, length, Option, None, Some, nat_le, refl, ap, sym, ◌∙◌, subst, arith}
 use Rattle.std.specs.Prelude.{MatchOption, not}
 use Rattle.std.specs.List.{list_all}
-use Rattle.phrase_tree.specs.Name.{IsName, is_name, is_name_byte, is_small_letter}
+use Rattle.phrase_tree.specs.Name.{IsName, is_name_byte, is_small_letter}
 use Rattle.release_policy.specs.declared.rule.Mode.{Mode}
 use Rattle.release_policy.specs.declared.rule.Mode.TheVariants.{FromBare, FromSealed, FromHashed, Never}
 use Rattle.release_policy.specs.declared.rule.Rule.{Rule}

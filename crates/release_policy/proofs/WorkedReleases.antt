@@ -1,8 +1,7 @@
 -- Disclosures and denials that were worked outside this project: an edit of the definitions is refused here.
 use Rattle.std.proofs.Common.{◌≡◌, ℕ, List, [], ◌∷◌, Option, None, Some, true, refl}
-use Rattle.std.specs.Prelude.{codes, map}
+use Rattle.std.specs.Prelude.{codes}
 use Rattle.phrase_tree.specs.declared.measurement.Asp.{Asp}
-use Rattle.phrase_tree.specs.declared.phrase.Split.{Split}
 use Rattle.phrase_tree.specs.Term.{Term, sig, hsh, nul, usm, kim, leaf, at, chain, seq}
 use Rattle.session_model.specs.Session.{Session}
 use Rattle.release_policy.specs.declared.denied.Denial.{Denial}
@@ -12,7 +11,7 @@ use Rattle.release_policy.specs.declared.rule.Mode.TheVariants.{FromBare, FromSe
 use Rattle.release_policy.specs.declared.rule.Rule.{Rule}
 use Rattle.release_policy.specs.Covered.{held}
 use Rattle.release_policy.specs.Denials.{first_denial}
-use Rattle.release_policy.specs.Disclosures.{Disclosure, disclosures}
+use Rattle.release_policy.specs.Disclosures.{disclosures}
 use Rattle.release_policy.specs.PolicyText.{parts, rule_text}
 
 abbrev bank : List ℕ

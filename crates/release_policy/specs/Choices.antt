@@ -1,5 +1,5 @@
 -- Which of several sessions a release policy lets run. This is this project's own.
-use Rattle.std.specs.Prelude.{◌≡◌, ℕ, Bool, List, Option, is_none, is_some}
+use Rattle.std.specs.Prelude.{◌≡◌, Bool, List, is_none, is_some}
 use Rattle.std.specs.List.{filter_map, take_while}
 use Rattle.phrase_tree.specs.Repeats.{first_index}
 use Rattle.session_model.specs.Session.{Session}

@@ -7,7 +7,6 @@ use Rattle.place_check.specs.Rules.{first}
 use Rattle.release_policy.specs.declared.denied.Denial.{Denial}
 use Rattle.release_policy.specs.declared.walk.Stop.{Stop}
 use Rattle.release_policy.specs.declared.walk.Stop.TheVariants.{Denied, NoMemory}
-use Rattle.release_policy.specs.declared.held.Cover.{Cover}
 use Rattle.release_policy.specs.declared.held.Cover.TheVariants.{Bare, Hashed}
 use Rattle.release_policy.specs.declared.held.Held.{Held}
 use Rattle.release_policy.specs.declared.rule.Rule.{Rule}

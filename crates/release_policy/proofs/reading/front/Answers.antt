@@ -1,4 +1,4 @@
-use Rattle.std.proofs.Common.{ap, ◌∙◌, arith}
+use Rattle.std.proofs.Common.{ap, ◌∙◌}
 use Rattle.release_policy.specs.PolicyText.{parts}
 use Rattle.release_policy.proofs.TextLemmas.{cut_length, parts-cut, parts-whole}
 use Rattle.release_policy.proofs.reading.front.Goals as goal
