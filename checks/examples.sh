@@ -13,6 +13,7 @@ for wanted in examples/*.out; do
     *) words='walk 0' job=examples/$name.json ;;
   esac
   [ "$words" = walk ] && words='walk 0'
+  words=${words//-/ }
   # shellcheck disable=SC2086 # the words of a command
   wants "$wanted" "$(./cerealspit $words <"$job")" "$(cat "$wanted")"
 done

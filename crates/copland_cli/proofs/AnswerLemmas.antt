@@ -1,20 +1,19 @@
 -- From what was decided and concluded to the answers of the program.
-use Rattle.std.proofs.Common.{◌≡◌, ◌≢◌, ◌↔◌, ◌⊎◌, ◌≤◌, ℕ, List, length, refl, sym, ap, ◌∙◌, inl, inr, arith, subst}
+use Rattle.std.proofs.Common.{◌≡◌, ◌≢◌, ◌↔◌, ◌≤◌, ℕ, List, length, refl, sym, ap, ◌∙◌, inl, inr, arith, subst}
 use Rattle.std.specs.Prelude.{Some}
 use Rattle.job_reader.specs.Finding.{Finding, IsFinding, JobView, accepted, refused}
 use Rattle.job_reader.specs.declared.refusal.JobError.{JobError}
 use Rattle.job_reader.specs.declared.refusal.JobError.TheVariants as errors
-use Rattle.report_text.specs.Refusal.{line_of}
 use Rattle.report_text.specs.declared.refusal.Refusal.{Refusal}
 use Rattle.report_text.specs.declared.refusal.Refusal.TheVariants as refusals
-use Rattle.copland_cli.specs.Answer.{ComesAt, HasCause, IsAnswer, IsExact, IsGiven, IsReported, IsTooLongExactly, RefusesWith, ReportsWith}
+use Rattle.copland_cli.specs.Answer.{ComesAt, HasCause, IsExact, IsGiven, IsReported, IsTooLongExactly, RefusesWith, ReportsWith}
 use Rattle.copland_cli.specs.Commands.{IsBuilt, input_of}
 use Rattle.copland_cli.specs.Concluded.{IsConcluded}
-use Rattle.copland_cli.specs.Input.{IsMade, IsReadAs, IsSolely, IsSubject, IsSubjectBy, IsUnreadable, IsWithoutSubject, IsWithoutSubjectBy, is_required}
-use Rattle.copland_cli.specs.Meaning.{IsDecisive, IsOfMeaning, IsReport, RefusesJob}
+use Rattle.copland_cli.specs.Input.{IsReadAs, IsSubjectBy, IsUnreadable, IsWithoutSubject, IsWithoutSubjectBy, is_required}
+use Rattle.copland_cli.specs.Meaning.{IsOfMeaning}
 use Rattle.copland_cli.specs.Outcome.{IsDecided, IsRun}
-use Rattle.copland_cli.specs.Port.{Port, IsTooLong, IsUnread, IsWithin, MetFault, TookAll, TookFront, TookLine, input_limit}
-use Rattle.copland_cli.specs.Reported.{Failing, Giving}
+use Rattle.copland_cli.specs.Port.{Port, IsTooLong, MetFault, input_limit}
+use Rattle.copland_cli.specs.Reported.{Failing, Giving, Starving}
 use Rattle.copland_cli.specs.Status.{ending_status, job_status, status_of}
 use Rattle.copland_cli.specs.Words.{IsBadWords, Spells}
 use Rattle.copland_cli.specs.declared.ending.Ending.{Ending}
@@ -76,10 +75,10 @@ cause Decided sink (Reported report) status never h (inr cut) =
 -- ---- what a run never decides
 
 -- a run's refusal is one of those before the command's meaning, or one of the meaning's own
-no_such_run : (Gives : Giving) (Fails : Failing) (command : Command) (source : Port) (why : Refusal) → IsBuilt command → ¬ IsOfMeaning why → ¬ IsWithoutSubject command source why → ¬ IsRun Gives Fails command source (Refused why)
-no_such_run Gives Fails command source why built early none (inl h) = none h
-no_such_run Gives Fails command source why built early none (inr h) =
-    early ((decisive Gives Fails command h.0 built).late why h.2)
+no_such_run : (Gives : Giving) (Fails : Failing) (Starves : Starving) (command : Command) (source : Port) (why : Refusal) → IsBuilt command → ¬ IsOfMeaning why → ¬ IsWithoutSubject command source why → ¬ IsRun Gives Fails Starves command source (Refused why)
+no_such_run Gives Fails Starves command source why built early none (inl h) = none h
+no_such_run Gives Fails Starves command source why built early none (inr h) =
+    early ((decisive Gives Fails Starves command h.0 built).late why h.2)
 
 not_words : (input : Input) (source : Port) → ¬ IsWithoutSubjectBy input source refusals.Words
 not_words Nothing source h = let e = h.0 in cc
@@ -89,46 +88,46 @@ not_starved_job : (input : Input) (source : Port) → ¬ IsWithoutSubjectBy inpu
 not_starved_job Nothing source h = let e = h.0 in cc
 not_starved_job (Job need) source h = h.2.is
 
-never_starved_job : (Known : Command → Type 0) (Gives : Giving) (Fails : Failing) (words : List (List ℕ)) (source : Port) → ¬ IsDecided Known Gives Fails words source (Refused (refusals.Job errors.NoMemory))
-never_starved_job Known Gives Fails words source (inl run) =
-    no_such_run Gives Fails run.0 source (refusals.Job errors.NoMemory) run.3 (λ h. h) (not_starved_job (input_of run.0) source) run.4
-never_starved_job Known Gives Fails words source (inr (inl bad)) = let e = bad.2 in cc
-never_starved_job Known Gives Fails words source (inr (inr unbuilt)) = let e = unbuilt.5 in cc
+never_starved_job : (Known : Command → Type 0) (Gives : Giving) (Fails : Failing) (Starves : Starving) (words : List (List ℕ)) (source : Port) → ¬ IsDecided Known Gives Fails Starves words source (Refused (refusals.Job errors.NoMemory))
+never_starved_job Known Gives Fails Starves words source (inl run) =
+    no_such_run Gives Fails Starves run.0 source (refusals.Job errors.NoMemory) run.3 (λ h. h) (not_starved_job (input_of run.0) source) run.4
+never_starved_job Known Gives Fails Starves words source (inr (inl bad)) = let e = bad.2 in cc
+never_starved_job Known Gives Fails Starves words source (inr (inr unbuilt)) = let e = unbuilt.5 in cc
 
-pub causes : (Known : Command → Type 0) (Gives : Giving) (Fails : Failing) (words : List (List ℕ)) (source sink : Port) (outcome : Outcome) (status : Status) → IsDecided Known Gives Fails words source outcome → IsConcluded sink outcome status → HasCause (IsDecided Known Gives Fails words source) sink status
-causes Known Gives Fails words source sink outcome status h c =
-    cause (IsDecided Known Gives Fails words source) sink outcome status (never_starved_job Known Gives Fails words source) h c
+pub causes : (Known : Command → Type 0) (Gives : Giving) (Fails : Failing) (Starves : Starving) (words : List (List ℕ)) (source sink : Port) (outcome : Outcome) (status : Status) → IsDecided Known Gives Fails Starves words source outcome → IsConcluded sink outcome status → HasCause (IsDecided Known Gives Fails Starves words source) sink status
+causes Known Gives Fails Starves words source sink outcome status h c =
+    cause (IsDecided Known Gives Fails Starves words source) sink outcome status (never_starved_job Known Gives Fails Starves words source) h c
 
 -- ---- bad words, both ways
 
-words_are_bad : (Known : Command → Type 0) (Gives : Giving) (Fails : Failing) (words : List (List ℕ)) (source : Port) → IsDecided Known Gives Fails words source (Refused refusals.Words) → IsBadWords Known words
-words_are_bad Known Gives Fails words source (inl run) =
-    absurd (no_such_run Gives Fails run.0 source refusals.Words run.3 (λ h. h) (not_words (input_of run.0) source) run.4)
-words_are_bad Known Gives Fails words source (inr (inl bad)) = bad.0
-words_are_bad Known Gives Fails words source (inr (inr unbuilt)) = let e = unbuilt.5 in cc
+words_are_bad : (Known : Command → Type 0) (Gives : Giving) (Fails : Failing) (Starves : Starving) (words : List (List ℕ)) (source : Port) → IsDecided Known Gives Fails Starves words source (Refused refusals.Words) → IsBadWords Known words
+words_are_bad Known Gives Fails Starves words source (inl run) =
+    absurd (no_such_run Gives Fails Starves run.0 source refusals.Words run.3 (λ h. h) (not_words (input_of run.0) source) run.4)
+words_are_bad Known Gives Fails Starves words source (inr (inl bad)) = bad.0
+words_are_bad Known Gives Fails Starves words source (inr (inr unbuilt)) = let e = unbuilt.5 in cc
 
 refused_so : (sink : Port) (why : Refusal) (outcome : Outcome) (status : Status) → outcome ≡ Refused why → IsConcluded sink outcome status → status ≡ status_of why
 refused_so sink why outcome status same c =
     let h : IsConcluded sink (Refused why) status = subst (λ (o : Outcome). IsConcluded sink o status) same c in h.0
 
-bad_so : (Known : Command → Type 0) (Gives : Giving) (Fails : Failing) (words : List (List ℕ)) (source sink : Port) (outcome : Outcome) (status : Status) → IsDecided Known Gives Fails words source outcome → IsConcluded sink outcome status → IsBadWords Known words → status ≡ statuses.BadWords
-bad_so Known Gives Fails words source sink outcome status (inl run) c bad = absurd (bad run.0 run.1 run.2)
-bad_so Known Gives Fails words source sink outcome status (inr (inl same)) c bad = refused_so sink refusals.Words outcome status same.2 c
-bad_so Known Gives Fails words source sink outcome status (inr (inr unbuilt)) c bad = absurd (bad unbuilt.0 unbuilt.1 unbuilt.2)
+bad_so : (Known : Command → Type 0) (Gives : Giving) (Fails : Failing) (Starves : Starving) (words : List (List ℕ)) (source sink : Port) (outcome : Outcome) (status : Status) → IsDecided Known Gives Fails Starves words source outcome → IsConcluded sink outcome status → IsBadWords Known words → status ≡ statuses.BadWords
+bad_so Known Gives Fails Starves words source sink outcome status (inl run) c bad = absurd (bad run.0 run.1 run.2)
+bad_so Known Gives Fails Starves words source sink outcome status (inr (inl same)) c bad = refused_so sink refusals.Words outcome status same.2 c
+bad_so Known Gives Fails Starves words source sink outcome status (inr (inr unbuilt)) c bad = absurd (bad unbuilt.0 unbuilt.1 unbuilt.2)
 
-pub bad_words : (Known : Command → Type 0) (Gives : Giving) (Fails : Failing) (words : List (List ℕ)) (source sink : Port) (outcome : Outcome) (status : Status) → IsDecided Known Gives Fails words source outcome → IsConcluded sink outcome status → (status ≡ statuses.BadWords) ↔ IsBadWords Known words
-bad_words Known Gives Fails words source sink outcome status h c = (
-  λ is. words_are_bad Known Gives Fails words source (subst (λ (s : Status). HasCause (IsDecided Known Gives Fails words source) sink s) is (causes Known Gives Fails words source sink outcome status h c)).0,
-  bad_so Known Gives Fails words source sink outcome status h c,
+pub bad_words : (Known : Command → Type 0) (Gives : Giving) (Fails : Failing) (Starves : Starving) (words : List (List ℕ)) (source sink : Port) (outcome : Outcome) (status : Status) → IsDecided Known Gives Fails Starves words source outcome → IsConcluded sink outcome status → (status ≡ statuses.BadWords) ↔ IsBadWords Known words
+bad_words Known Gives Fails Starves words source sink outcome status h c = (
+  λ is. words_are_bad Known Gives Fails Starves words source (subst (λ (s : Status). HasCause (IsDecided Known Gives Fails Starves words source) sink s) is (causes Known Gives Fails Starves words source sink outcome status h c)).0,
+  bad_so Known Gives Fails Starves words source sink outcome status h c,
 )
 
 -- ---- the run of the command that the words spell
 
-run_of : (Known : Command → Type 0) (Gives : Giving) (Fails : Failing) (words : List (List ℕ)) (source : Port) (outcome : Outcome) (command : Command) → IsDecided Known Gives Fails words source outcome → Spells words command → Known command → IsBuilt command → IsRun Gives Fails command source outcome
-run_of Known Gives Fails words source outcome command (inl run) spelled known built =
-    subst (λ (one : Command). IsRun Gives Fails one source outcome) (one_command words run.0 command run.1 spelled) run.4
-run_of Known Gives Fails words source outcome command (inr (inl bad)) spelled known built = absurd (bad.0 command spelled known)
-run_of Known Gives Fails words source outcome command (inr (inr unbuilt)) spelled known built =
+run_of : (Known : Command → Type 0) (Gives : Giving) (Fails : Failing) (Starves : Starving) (words : List (List ℕ)) (source : Port) (outcome : Outcome) (command : Command) → IsDecided Known Gives Fails Starves words source outcome → Spells words command → Known command → IsBuilt command → IsRun Gives Fails Starves command source outcome
+run_of Known Gives Fails Starves words source outcome command (inl run) spelled known built =
+    subst (λ (one : Command). IsRun Gives Fails Starves one source outcome) (one_command words run.0 command run.1 spelled) run.4
+run_of Known Gives Fails Starves words source outcome command (inr (inl bad)) spelled known built = absurd (bad.0 command spelled known)
+run_of Known Gives Fails Starves words source outcome command (inr (inr unbuilt)) spelled known built =
     absurd (built-unbuilt words command unbuilt.0 spelled built unbuilt.1 unbuilt.3)
 
 -- ---- each answer comes exactly where what is given calls for it
@@ -144,8 +143,8 @@ record Calm (source : Port) (status : Status) : Type 0 where
   kept : ¬ MetFault source
   memory : status ≢ statuses.NoMemory
 
-comes_so : (Gives : Giving) (Fails : Failing) (command : Command) (sink : Port) (one other : Finding) (status : Status) → one ≡ other → ComesAt Gives Fails command sink one status → ComesAt Gives Fails command sink other status
-comes_so Gives Fails command sink one other status same h =
+comes_so : (Gives : Giving) (Fails : Failing) (Starves : Starving) (command : Command) (sink : Port) (one other : Finding) (status : Status) → one ≡ other → ComesAt Gives Fails command sink one status → ComesAt Gives Fails command sink other status
+comes_so Gives Fails Starves command sink one other status same h =
     subst (λ (f : Finding). ComesAt Gives Fails command sink f status) same h
 
 -- the subject is the job that is given
@@ -155,48 +154,48 @@ same_subject Nothing command source (refused error) job given subject = absurd g
 same_subject (Job need) command source finding job given subject =
     same_finding need source given.0 finding (accepted job) given.1 given.3 subject
 
-exact_unreadable : (Gives : Giving) (Fails : Failing) (command : Command) (need : BundleNeed) (source sink : Port) (why : Refusal) (status : Status) (finding : Finding) → (bytes : List ℕ) → source.bytes_before ≡ Some bytes → length bytes ≤ input_limit → IsFinding bytes (is_required need) finding → Calm source status → status ≡ status_of why → IsUnreadable need source why → ComesAt Gives Fails command sink finding status
-exact_unreadable Gives Fails command need source sink refusals.Words status finding bytes told short is calm at h = absurd h
-exact_unreadable Gives Fails command need source sink refusals.Unbuilt status finding bytes told short is calm at h = absurd h
-exact_unreadable Gives Fails command need source sink refusals.ReadFault status finding bytes told short is calm at h = absurd (calm.kept h.0)
-exact_unreadable Gives Fails command need source sink refusals.TooLong status finding bytes told short is calm at h =
+exact_unreadable : (Gives : Giving) (Fails : Failing) (Starves : Starving) (command : Command) (need : BundleNeed) (source sink : Port) (why : Refusal) (status : Status) (finding : Finding) → (bytes : List ℕ) → source.bytes_before ≡ Some bytes → length bytes ≤ input_limit → IsFinding bytes (is_required need) finding → Calm source status → status ≡ status_of why → IsUnreadable need source why → ComesAt Gives Fails command sink finding status
+exact_unreadable Gives Fails Starves command need source sink refusals.Words status finding bytes told short is calm at h = absurd h
+exact_unreadable Gives Fails Starves command need source sink refusals.Unbuilt status finding bytes told short is calm at h = absurd h
+exact_unreadable Gives Fails Starves command need source sink refusals.ReadFault status finding bytes told short is calm at h = absurd (calm.kept h.0)
+exact_unreadable Gives Fails Starves command need source sink refusals.TooLong status finding bytes told short is calm at h =
     absurd (let few = within source.bytes_before source.bytes_after bytes h.0 told h.1 in omega (arith, few, short, h.2))
-exact_unreadable Gives Fails command need source sink (refusals.Job error) status finding bytes told short is calm at h =
-    comes_so Gives Fails command sink (refused error) finding status (same_finding need source bytes finding (refused error) told is h) at
-exact_unreadable Gives Fails command need source sink (refusals.NoReference event) status finding bytes told short is calm at h = absurd h
-exact_unreadable Gives Fails command need source sink (refusals.BadBundle place kind) status finding bytes told short is calm at h = absurd h
-exact_unreadable Gives Fails command need source sink (refusals.BadShape node) status finding bytes told short is calm at h = absurd h
-exact_unreadable Gives Fails command need source sink refusals.NoMemory status finding bytes told short is calm at h = absurd (calm.memory at)
+exact_unreadable Gives Fails Starves command need source sink (refusals.Job error) status finding bytes told short is calm at h =
+    comes_so Gives Fails Starves command sink (refused error) finding status (same_finding need source bytes finding (refused error) told is h) at
+exact_unreadable Gives Fails Starves command need source sink (refusals.NoReference event) status finding bytes told short is calm at h = absurd h
+exact_unreadable Gives Fails Starves command need source sink (refusals.BadBundle place kind) status finding bytes told short is calm at h = absurd h
+exact_unreadable Gives Fails Starves command need source sink (refusals.BadShape node) status finding bytes told short is calm at h = absurd h
+exact_unreadable Gives Fails Starves command need source sink refusals.NoMemory status finding bytes told short is calm at h = absurd (calm.memory at)
 
-exact_without : (Gives : Giving) (Fails : Failing) (command : Command) (input : Input) (source sink : Port) (why : Refusal) (status : Status) (finding : Finding) → IsGiven input command source finding → Calm source status → status ≡ status_of why → IsWithoutSubjectBy input source why → ComesAt Gives Fails command sink finding status
-exact_without Gives Fails command Nothing source sink why status finding given calm at h = absurd (calm.memory (at ∙ ap (λ w. status_of w) h.0))
-exact_without Gives Fails command (Job need) source sink why status finding given calm at h =
-    exact_unreadable Gives Fails command need source sink why status finding given.0 given.1 given.2 given.3 calm at h
+exact_without : (Gives : Giving) (Fails : Failing) (Starves : Starving) (command : Command) (input : Input) (source sink : Port) (why : Refusal) (status : Status) (finding : Finding) → IsGiven input command source finding → Calm source status → status ≡ status_of why → IsWithoutSubjectBy input source why → ComesAt Gives Fails command sink finding status
+exact_without Gives Fails Starves command Nothing source sink why status finding given calm at h = absurd (calm.memory (at ∙ ap (λ w. status_of w) h.0))
+exact_without Gives Fails Starves command (Job need) source sink why status finding given calm at h =
+    exact_unreadable Gives Fails Starves command need source sink why status finding given.0 given.1 given.2 given.3 calm at h
 
 reported : (sink : Port) (report : Report) (status : Status) → IsConcluded sink (Reported report) status → IsReported sink status
 reported sink report status (inl written) = inl (report.ending, written.0)
 reported sink report status (inr cut) = inr (cut.0, cut.1.0)
 
-exact_run : (Gives : Giving) (Fails : Failing) (command : Command) (source sink : Port) (outcome : Outcome) (status : Status) (finding : Finding) → IsBuilt command → IsGiven (input_of command) command source finding → Calm source status → IsRun Gives Fails command source outcome → IsConcluded sink outcome status → ComesAt Gives Fails command sink finding status
-exact_run Gives Fails command source sink (Refused why) status finding built given calm (inl h) c =
-    exact_without Gives Fails command (input_of command) source sink why status finding given calm c.0 h
-exact_run Gives Fails command source sink (Refused why) status finding built given calm (inr h) c =
-    let law = decisive Gives Fails command h.0 built in
-    comes_so Gives Fails command sink (accepted h.0) finding status (same_subject (input_of command) command source finding h.0 given h.1) (
+exact_run : (Gives : Giving) (Fails : Failing) (Starves : Starving) (command : Command) (source sink : Port) (outcome : Outcome) (status : Status) (finding : Finding) → IsBuilt command → IsGiven (input_of command) command source finding → Calm source status → IsRun Gives Fails Starves command source outcome → IsConcluded sink outcome status → ComesAt Gives Fails command sink finding status
+exact_run Gives Fails Starves command source sink (Refused why) status finding built given calm (inl h) c =
+    exact_without Gives Fails Starves command (input_of command) source sink why status finding given calm c.0 h
+exact_run Gives Fails Starves command source sink (Refused why) status finding built given calm (inr h) c =
+    let law = decisive Gives Fails Starves command h.0 built in
+    comes_so Gives Fails Starves command sink (accepted h.0) finding status (same_subject (input_of command) command source finding h.0 given h.1) (
       λ other refuses. c.0 ∙ ap (λ w. status_of w) (law.one_refusal why other h.2 refuses),
       λ none. absurd (none why h.2),
     )
-exact_run Gives Fails command source sink (Reported report) status finding built given calm h c =
-    let law = decisive Gives Fails command h.0 built in
-    comes_so Gives Fails command sink (accepted h.0) finding status (same_subject (input_of command) command source finding h.0 given h.1) (
+exact_run Gives Fails Starves command source sink (Reported report) status finding built given calm h c =
+    let law = decisive Gives Fails Starves command h.0 built in
+    comes_so Gives Fails Starves command sink (accepted h.0) finding status (same_subject (input_of command) command source finding h.0 given h.1) (
       λ why refuses. absurd (law.not_both why report.text report.ending refuses h.2),
       λ none. reported sink report status c,
     )
 
-pub exact : (Known : Command → Type 0) (Gives : Giving) (Fails : Failing) (words : List (List ℕ)) (source sink : Port) (outcome : Outcome) (status : Status) → IsDecided Known Gives Fails words source outcome → IsConcluded sink outcome status → IsExact Known Gives Fails words source sink status
-exact Known Gives Fails words source sink outcome status h c = λ command finding spelled known built kept memory given.
-    exact_run Gives Fails command source sink outcome status finding built given (record { kept = kept; memory = memory })
-    (run_of Known Gives Fails words source outcome command h spelled known built) c
+pub exact : (Known : Command → Type 0) (Gives : Giving) (Fails : Failing) (Starves : Starving) (words : List (List ℕ)) (source sink : Port) (outcome : Outcome) (status : Status) → IsDecided Known Gives Fails Starves words source outcome → IsConcluded sink outcome status → IsExact Known Gives Fails words source sink status
+exact Known Gives Fails Starves words source sink outcome status h c = λ command finding spelled known built kept memory given.
+    exact_run Gives Fails Starves command source sink outcome status finding built given (record { kept = kept; memory = memory })
+    (run_of Known Gives Fails Starves words source outcome command h spelled known built) c
 
 -- ---- too long, both ways
 
@@ -219,29 +218,29 @@ not_long_subject : (input : Input) (command : Command) (source : Port) (left : L
 not_long_subject Nothing command source left job told long h = none_given source left told long h.1
 not_long_subject (Job need) command source left job told long h = not_both source left h.0 told long h.1.given h.1.short
 
-long_run : (Gives : Giving) (Fails : Failing) (command : Command) (source sink : Port) (left : List ℕ) (outcome : Outcome) (status : Status) → source.bytes_before ≡ Some left → IsTooLong source → IsRun Gives Fails command source outcome → IsConcluded sink outcome status → status ≡ statuses.TooLong
-long_run Gives Fails command source sink left (Refused why) status told long (inl h) c =
+long_run : (Gives : Giving) (Fails : Failing) (Starves : Starving) (command : Command) (source sink : Port) (left : List ℕ) (outcome : Outcome) (status : Status) → source.bytes_before ≡ Some left → IsTooLong source → IsRun Gives Fails Starves command source outcome → IsConcluded sink outcome status → status ≡ statuses.TooLong
+long_run Gives Fails Starves command source sink left (Refused why) status told long (inl h) c =
     long_without (input_of command) source left why status told long c.0 h
-long_run Gives Fails command source sink left (Refused why) status told long (inr h) c =
+long_run Gives Fails Starves command source sink left (Refused why) status told long (inr h) c =
     absurd (not_long_subject (input_of command) command source left h.0 told long h.1)
-long_run Gives Fails command source sink left (Reported report) status told long h c =
+long_run Gives Fails Starves command source sink left (Reported report) status told long h c =
     absurd (not_long_subject (input_of command) command source left h.0 told long h.1)
 
 long_source : (input : Input) (source : Port) → IsWithoutSubjectBy input source refusals.TooLong → IsTooLong source
 long_source Nothing source h = absurd (let e = h.0 in cc)
 long_source (Job need) source h = h
 
-long_decided_run : (Gives : Giving) (Fails : Failing) (command : Command) (source : Port) → IsBuilt command → IsRun Gives Fails command source (Refused refusals.TooLong) → IsTooLong source
-long_decided_run Gives Fails command source built (inl h) = long_source (input_of command) source h
-long_decided_run Gives Fails command source built (inr h) = absurd ((decisive Gives Fails command h.0 built).late refusals.TooLong h.2)
+long_decided_run : (Gives : Giving) (Fails : Failing) (Starves : Starving) (command : Command) (source : Port) → IsBuilt command → IsRun Gives Fails Starves command source (Refused refusals.TooLong) → IsTooLong source
+long_decided_run Gives Fails Starves command source built (inl h) = long_source (input_of command) source h
+long_decided_run Gives Fails Starves command source built (inr h) = absurd ((decisive Gives Fails Starves command h.0 built).late refusals.TooLong h.2)
 
-long_decided : (Known : Command → Type 0) (Gives : Giving) (Fails : Failing) (words : List (List ℕ)) (source : Port) → IsDecided Known Gives Fails words source (Refused refusals.TooLong) → IsTooLong source
-long_decided Known Gives Fails words source (inl run) = long_decided_run Gives Fails run.0 source run.3 run.4
-long_decided Known Gives Fails words source (inr (inl bad)) = absurd (let e = bad.2 in cc)
-long_decided Known Gives Fails words source (inr (inr unbuilt)) = absurd (let e = unbuilt.5 in cc)
+long_decided : (Known : Command → Type 0) (Gives : Giving) (Fails : Failing) (Starves : Starving) (words : List (List ℕ)) (source : Port) → IsDecided Known Gives Fails Starves words source (Refused refusals.TooLong) → IsTooLong source
+long_decided Known Gives Fails Starves words source (inl run) = long_decided_run Gives Fails Starves run.0 source run.3 run.4
+long_decided Known Gives Fails Starves words source (inr (inl bad)) = absurd (let e = bad.2 in cc)
+long_decided Known Gives Fails Starves words source (inr (inr unbuilt)) = absurd (let e = unbuilt.5 in cc)
 
-pub too_long : (Known : Command → Type 0) (Gives : Giving) (Fails : Failing) (words : List (List ℕ)) (source sink : Port) (outcome : Outcome) (status : Status) → IsDecided Known Gives Fails words source outcome → IsConcluded sink outcome status → IsTooLongExactly Known words source status
-too_long Known Gives Fails words source sink outcome status h c = λ command left spelled known built told. (
-  λ is. long_decided Known Gives Fails words source (subst (λ (s : Status). HasCause (IsDecided Known Gives Fails words source) sink s) is (causes Known Gives Fails words source sink outcome status h c)).0,
-  λ long. long_run Gives Fails command source sink left outcome status told long (run_of Known Gives Fails words source outcome command h spelled known built) c,
+pub too_long : (Known : Command → Type 0) (Gives : Giving) (Fails : Failing) (Starves : Starving) (words : List (List ℕ)) (source sink : Port) (outcome : Outcome) (status : Status) → IsDecided Known Gives Fails Starves words source outcome → IsConcluded sink outcome status → IsTooLongExactly Known words source status
+too_long Known Gives Fails Starves words source sink outcome status h c = λ command left spelled known built told. (
+  λ is. long_decided Known Gives Fails Starves words source (subst (λ (s : Status). HasCause (IsDecided Known Gives Fails Starves words source) sink s) is (causes Known Gives Fails Starves words source sink outcome status h c)).0,
+  λ long. long_run Gives Fails Starves command source sink left outcome status told long (run_of Known Gives Fails Starves words source outcome command h spelled known built) c,
 )

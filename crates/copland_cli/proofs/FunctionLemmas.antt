@@ -1,13 +1,14 @@
 -- Over a bench whose records are one, reports on one job are one.
 use Rattle.std.proofs.Common.{◌≡◌, ◌∙◌, ap, refl, sym, subst, ℕ, List, [], ◌∷◌}
-use Rattle.bench_trait.specs.declared.bench.BenchFault.{BenchFault}
 use Rattle.place_check.specs.Places.{keys_of}
 use Rattle.session_model.specs.Record.{Record, IsRisingRecord}
 use Rattle.session_model.specs.Session.{Session}
-use Rattle.job_reader.specs.Finding.{Finding, JobView, accepted}
+use Rattle.job_reader.specs.Finding.{JobView, accepted}
 use Rattle.report_text.specs.Records.{records_text, values_text}
-use Rattle.copland_cli.specs.Meaning.{IsOfRecordsIn, IsReport}
-use Rattle.copland_cli.specs.Reported.{AreRecords, Failing, Giving, SaysOfEach, aspect_text, ending_of, some_failed}
+use Rattle.checked_sessions.specs.Named.{place_names}
+use Rattle.session_walk.specs.Records.{AreOfWalk}
+use Rattle.copland_cli.specs.Meaning.{IsOfRecordsIn, IsOfWalkIn, IsReport}
+use Rattle.copland_cli.specs.Reported.{AreRecords, Failing, Giving, Starving, SaysOfEach, aspect_text, ending_of, some_failed}
 use Rattle.copland_cli.specs.declared.ending.Ending.{Ending}
 use Rattle.copland_cli.specs.declared.session.Aspect.TheVariants as aspects
 use Rattle.copland_cli.specs.declared.words.Command.{Command}
@@ -36,21 +37,31 @@ same_of_records Gives Fails law job text_of text other ending ended h k =
     let same = same_records Gives Fails law job job.sessions h.records k.records h.each k.each in
     (h.reported ∙ ap text_of same ∙ sym k.reported, h.ended ∙ ap (λ (r : List Record). ending_of (some_failed r)) same ∙ sym k.ended)
 
-on_one_job : (Gives : Giving) (Fails : Failing) (law : HasOneRecord Gives Fails) (command : Command) (job : JobView) (text other : List ℕ) (ending ended : Ending) → IsReport Gives Fails command job text ending → IsReport Gives Fails command job other ended → (text ≡ other) × (ending ≡ ended)
-on_one_job Gives Fails law Check job text other ending ended h k = same_each (aspect_text aspects.Check) job.sessions text other ending ended h k
-on_one_job Gives Fails law Shape job text other ending ended h k = same_each (aspect_text aspects.Shape) job.sessions text other ending ended h k
-on_one_job Gives Fails law Events job text other ending ended h k = same_each (aspect_text aspects.Events) job.sessions text other ending ended h k
-on_one_job Gives Fails law Code job text other ending ended h k = same_each (aspect_text aspects.Code) job.sessions text other ending ended h k
-on_one_job Gives Fails law Eval job text other ending ended h k = same_of_records Gives Fails law job values_text text other ending ended h k
-on_one_job Gives Fails law (Walk schedule) job text other ending ended h k = same_of_records Gives Fails law job records_text text other ending ended h k
-on_one_job Gives Fails law (Attest workers) job text other ending ended h k = absurd h
-on_one_job Gives Fails law Appraise job text other ending ended h k = absurd h
-on_one_job Gives Fails law (Load number) job text other ending ended h k = absurd h
+-- so has a walk of a number over the sessions of a job
+abbrev pub HasOneWalk : Giving → Failing → Starving → Type 0
+HasOneWalk Gives Fails Starves =
+    (job : JobView) (number : ℕ) (one other : List Record) → AreOfWalk (Gives job.artefacts) (Fails job.artefacts) (Starves job.artefacts) (place_names job.places) (keys_of job.places) job.sessions number one → AreOfWalk (Gives job.artefacts) (Fails job.artefacts) (Starves job.artefacts) (place_names job.places) (keys_of job.places) job.sessions number other → one ≡ other
+
+same_of_walks : (Gives : Giving) (Fails : Failing) (Starves : Starving) (walks : HasOneWalk Gives Fails Starves) (job : JobView) (number : ℕ) (text other : List ℕ) (ending ended : Ending) → IsOfWalkIn Gives Fails Starves job number text ending → IsOfWalkIn Gives Fails Starves job number other ended → (text ≡ other) × (ending ≡ ended)
+same_of_walks Gives Fails Starves walks job number text other ending ended h k =
+    let same = walks job number h.records k.records h.walked k.walked in
+    (h.reported ∙ ap (λ (r : List Record). records_text r) same ∙ sym k.reported, h.ended ∙ ap (λ (r : List Record). ending_of (some_failed r)) same ∙ sym k.ended)
+
+on_one_job : (Gives : Giving) (Fails : Failing) (Starves : Starving) (law : HasOneRecord Gives Fails) (walks : HasOneWalk Gives Fails Starves) (command : Command) (job : JobView) (text other : List ℕ) (ending ended : Ending) → IsReport Gives Fails Starves command job text ending → IsReport Gives Fails Starves command job other ended → (text ≡ other) × (ending ≡ ended)
+on_one_job Gives Fails Starves law walks Check job text other ending ended h k = same_each (aspect_text aspects.Check) job.sessions text other ending ended h k
+on_one_job Gives Fails Starves law walks Shape job text other ending ended h k = same_each (aspect_text aspects.Shape) job.sessions text other ending ended h k
+on_one_job Gives Fails Starves law walks Events job text other ending ended h k = same_each (aspect_text aspects.Events) job.sessions text other ending ended h k
+on_one_job Gives Fails Starves law walks Code job text other ending ended h k = same_each (aspect_text aspects.Code) job.sessions text other ending ended h k
+on_one_job Gives Fails Starves law walks Eval job text other ending ended h k = same_of_records Gives Fails law job values_text text other ending ended h k
+on_one_job Gives Fails Starves law walks (Walk number) job text other ending ended h k = same_of_walks Gives Fails Starves walks job number text other ending ended h k
+on_one_job Gives Fails Starves law walks (Attest workers) job text other ending ended h k = absurd h
+on_one_job Gives Fails Starves law walks Appraise job text other ending ended h k = absurd h
+on_one_job Gives Fails Starves law walks (Load number) job text other ending ended h k = absurd h
 
 -- two jobs that are one finding are one job
 same_job : (job other : JobView) → accepted job ≡ accepted other → other ≡ job
 same_job job other same = cc
 
-pub on_one_finding : (Gives : Giving) (Fails : Failing) (law : HasOneRecord Gives Fails) (command : Command) (job again : JobView) (text other : List ℕ) (ending ended : Ending) → accepted job ≡ accepted again → IsReport Gives Fails command job text ending → IsReport Gives Fails command again other ended → (text ≡ other) × (ending ≡ ended)
-on_one_finding Gives Fails law command job again text other ending ended same h k =
-    on_one_job Gives Fails law command job text other ending ended h (subst (λ (j : JobView). IsReport Gives Fails command j other ended) (same_job job again same) k)
+pub on_one_finding : (Gives : Giving) (Fails : Failing) (Starves : Starving) (law : HasOneRecord Gives Fails) (walks : HasOneWalk Gives Fails Starves) (command : Command) (job again : JobView) (text other : List ℕ) (ending ended : Ending) → accepted job ≡ accepted again → IsReport Gives Fails Starves command job text ending → IsReport Gives Fails Starves command again other ended → (text ≡ other) × (ending ≡ ended)
+on_one_finding Gives Fails Starves law walks command job again text other ending ended same h k =
+    on_one_job Gives Fails Starves law walks command job text other ending ended h (subst (λ (j : JobView). IsReport Gives Fails Starves command j other ended) (same_job job again same) k)

@@ -5,3 +5,4 @@ pub mod OutcomeLemmas
 pub mod RecordLemmas
 pub mod AnswerLemmas
 pub mod FunctionLemmas
+pub mod DigestLemmas

@@ -1,26 +1,13 @@
 -- From the job that was read to what a command decides.
-use Rattle.std.proofs.Common.{◌≡◌, ◌↔◌, ◌⊎◌, ℕ, Bool, List, inl, inr, refl, ap, sym, subst}
+use Rattle.std.proofs.Common.{◌≡◌, ◌↔◌, ℕ, Bool, List, inl, inr, refl, sym, subst}
 use Rattle.std.specs.Prelude.{Err}
 use Rattle.job_reader.specs.Accepted.{UnlessNoMemory}
-use Rattle.job_reader.specs.Finding.{Finding, IsFinding, JobView, accepted, refused}
+use Rattle.job_reader.specs.Finding.{Finding, IsFinding, refused}
 use Rattle.job_reader.specs.declared.refusal.JobError.{JobError}
 use Rattle.job_reader.specs.declared.refusal.JobError.TheVariants as errors
 use Rattle.report_text.specs.declared.refusal.Refusal.{Refusal}
-use Rattle.report_text.specs.declared.refusal.Refusal.TheVariants.{Words, Unbuilt, ReadFault, TooLong, Job as JobRefused, NoReference, BadBundle, BadShape, NoMemory}
-use Rattle.copland_cli.specs.Commands.{IsBuilt, input_of}
-use Rattle.copland_cli.specs.Input.{IsReadAs, IsRefusalFor, IsRefusedOver, IsSolely, IsSubject, IsSubjectBy, IsUnreadable, IsWithoutSubject, IsWithoutSubjectBy, is_required}
-use Rattle.copland_cli.specs.Meaning.{IsReport, RefusesJob}
-use Rattle.copland_cli.specs.Outcome.{IsMeant, IsRun}
-use Rattle.copland_cli.specs.Port.{Port, IsWhole}
-use Rattle.copland_cli.specs.Reported.{Failing, Giving}
-use Rattle.copland_cli.specs.declared.ending.Ending.{Ending}
+use Rattle.copland_cli.specs.Input.{IsRefusalFor, IsRefusedOver, IsSolely, is_required}
 use Rattle.copland_cli.specs.declared.input.BundleNeed.{BundleNeed}
-use Rattle.copland_cli.specs.declared.input.Input.{Input}
-use Rattle.copland_cli.specs.declared.input.Input.TheVariants.{Nothing, Job}
-use Rattle.copland_cli.specs.declared.words.Command.{Command}
-use Rattle.copland_cli.specs.declared.words.Command.TheVariants.{Check, Shape, Events, Code, Eval, Walk, Attest, Appraise, Load}
-use Rattle.copland_cli.specs.declared.outcome.Outcome.{Outcome}
-use Rattle.copland_cli.specs.declared.outcome.Outcome.TheVariants.{Refused, Reported}
 
 -- the refusal of a job, where want of memory is none
 solely : (bytes : List ℕ) (need : BundleNeed) (error : JobError) → ¬ (error ≡ errors.NoMemory) → UnlessNoMemory (Err error) (IsFinding bytes (is_required need) (refused error)) → ((finding : Finding) → UnlessNoMemory (Err error) ((refused error ≡ finding) ↔ IsFinding bytes (is_required need) finding)) → IsSolely bytes need (refused error)

@@ -1,5 +1,5 @@
 -- Words spell one command only.
-use Rattle.std.proofs.Common.{◌≡◌, ◌<◌, ◌≤◌, ◌^◌, ℕ, List, [], ◌∷◌, refl, sym, ap, ◌∙◌, arith, subst}
+use Rattle.std.proofs.Common.{◌≡◌, ◌<◌, ◌^◌, ℕ, List, [], ◌∷◌, refl, sym, ap, ◌∙◌, arith, subst}
 use Rattle.std.specs.Prelude.{codes, decimal, nat_eq, if◌then◌else◌, Option, None, Some}
 use lib.Pointwise.{pointwise}
 use Rattle.std.proofs.lemmas.Fmt.{decimal_injective}

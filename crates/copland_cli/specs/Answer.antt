@@ -5,7 +5,7 @@ use Rattle.place_check.specs.declared.entry.PlaceKind.{PlaceKind}
 use Rattle.job_values.specs.declared.path.FieldAt.{FieldAt}
 use Rattle.job_values.specs.declared.path.FieldKind.{FieldKind}
 use Rattle.evidence_codec.specs.declared.fault.BadKind.{BadKind}
-use Rattle.job_reader.specs.Finding.{Finding, IsFinding, JobView, accepted, refused}
+use Rattle.job_reader.specs.Finding.{Finding, IsFinding, accepted, refused}
 use Rattle.job_reader.specs.declared.refusal.JobError.TheVariants as errors
 use Rattle.report_text.specs.Refusal.{line_of}
 use Rattle.report_text.specs.declared.refusal.Refusal.{Refusal}

@@ -1,5 +1,4 @@
 -- Which commands run on one thread, which are built, and what each reads.
-use Rattle.std.specs.Prelude.{◌≡◌}
 use Rattle.copland_cli.specs.declared.words.Command.{Command}
 use Rattle.copland_cli.specs.declared.words.Command.TheVariants.{Check, Shape, Events, Code, Eval, Walk, Attest, Appraise, Load}
 use Rattle.copland_cli.specs.declared.input.BundleNeed.TheVariants.{Optional, Required}
@@ -13,7 +12,7 @@ IsPlain Shape = Unit {0}
 IsPlain Events = Unit {0}
 IsPlain Code = Unit {0}
 IsPlain Eval = Unit {0}
-IsPlain (Walk schedule) = Unit {0}
+IsPlain (Walk number) = Unit {0}
 IsPlain (Attest workers) = ⊥
 IsPlain Appraise = Unit {0}
 IsPlain (Load number) = Unit {0}
@@ -25,7 +24,7 @@ IsBuilt Shape = Unit {0}
 IsBuilt Events = Unit {0}
 IsBuilt Code = Unit {0}
 IsBuilt Eval = Unit {0}
-IsBuilt (Walk schedule) = schedule ≡ 0
+IsBuilt (Walk number) = Unit {0}
 IsBuilt (Attest workers) = ⊥
 IsBuilt Appraise = ⊥
 IsBuilt (Load number) = ⊥
@@ -37,7 +36,7 @@ input_of Shape = Job Optional
 input_of Events = Job Optional
 input_of Code = Job Optional
 input_of Eval = Job Optional
-input_of (Walk schedule) = Job Optional
+input_of (Walk number) = Job Optional
 input_of (Attest workers) = Job Optional
 input_of Appraise = Job Required
 input_of (Load number) = Nothing

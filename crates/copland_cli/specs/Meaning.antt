@@ -4,10 +4,10 @@ use Rattle.std.specs.Prelude.{◌≡◌, ℕ, List}
 use Rattle.place_check.specs.Places.{keys_of}
 use Rattle.session_model.specs.Record.{Record}
 use Rattle.job_reader.specs.Finding.{JobView}
-use Rattle.report_text.specs.Records.{records_text, values_text}
+use Rattle.report_text.specs.Records.{values_text}
 use Rattle.report_text.specs.declared.refusal.Refusal.{Refusal}
 use Rattle.report_text.specs.declared.refusal.Refusal.TheVariants.{Words, Unbuilt, ReadFault, TooLong, Job, NoReference, BadBundle, BadShape, NoMemory}
-use Rattle.copland_cli.specs.Reported.{Failing, Giving, IsOfRecords, SaysOfEach, aspect_text}
+use Rattle.copland_cli.specs.Reported.{Failing, Giving, Starving, IsOfRecords, IsOfWalk, SaysOfEach, aspect_text}
 use Rattle.copland_cli.specs.declared.ending.Ending.{Ending}
 use Rattle.copland_cli.specs.declared.session.Aspect.TheVariants as aspects
 use Rattle.copland_cli.specs.declared.words.Command.{Command}
@@ -20,7 +20,7 @@ RefusesJob Gives Fails Shape job why = ⊥
 RefusesJob Gives Fails Events job why = ⊥
 RefusesJob Gives Fails Code job why = ⊥
 RefusesJob Gives Fails Eval job why = ⊥
-RefusesJob Gives Fails (Walk schedule) job why = ⊥
+RefusesJob Gives Fails (Walk number) job why = ⊥
 RefusesJob Gives Fails (Attest workers) job why = ⊥
 RefusesJob Gives Fails Appraise job why = ⊥
 RefusesJob Gives Fails (Load number) job why = ⊥
@@ -30,17 +30,22 @@ abbrev pub IsOfRecordsIn : Giving → Failing → JobView → (List Record → L
 IsOfRecordsIn Gives Fails job text_of text ending =
     IsOfRecords (Gives job.artefacts) (Fails job.artefacts) (keys_of job.places) job.sessions text_of text ending
 
+-- the report is the text of the records of a walk of this number over the sessions of a job
+abbrev pub IsOfWalkIn : Giving → Failing → Starving → JobView → ℕ → List ℕ → Ending → Type 0
+IsOfWalkIn Gives Fails Starves job number text ending =
+    IsOfWalk (Gives job.artefacts) (Fails job.artefacts) (Starves job.artefacts) job.places job.sessions number text ending
+
 -- the text is a report of the command on an accepted job, and ends so
-abbrev pub IsReport : Giving → Failing → Command → JobView → List ℕ → Ending → Type 0
-IsReport Gives Fails Check job text ending = SaysOfEach (aspect_text aspects.Check) job.sessions text ending
-IsReport Gives Fails Shape job text ending = SaysOfEach (aspect_text aspects.Shape) job.sessions text ending
-IsReport Gives Fails Events job text ending = SaysOfEach (aspect_text aspects.Events) job.sessions text ending
-IsReport Gives Fails Code job text ending = SaysOfEach (aspect_text aspects.Code) job.sessions text ending
-IsReport Gives Fails Eval job text ending = IsOfRecordsIn Gives Fails job values_text text ending
-IsReport Gives Fails (Walk schedule) job text ending = IsOfRecordsIn Gives Fails job records_text text ending
-IsReport Gives Fails (Attest workers) job text ending = ⊥
-IsReport Gives Fails Appraise job text ending = ⊥
-IsReport Gives Fails (Load number) job text ending = ⊥
+abbrev pub IsReport : Giving → Failing → Starving → Command → JobView → List ℕ → Ending → Type 0
+IsReport Gives Fails Starves Check job text ending = SaysOfEach (aspect_text aspects.Check) job.sessions text ending
+IsReport Gives Fails Starves Shape job text ending = SaysOfEach (aspect_text aspects.Shape) job.sessions text ending
+IsReport Gives Fails Starves Events job text ending = SaysOfEach (aspect_text aspects.Events) job.sessions text ending
+IsReport Gives Fails Starves Code job text ending = SaysOfEach (aspect_text aspects.Code) job.sessions text ending
+IsReport Gives Fails Starves Eval job text ending = IsOfRecordsIn Gives Fails job values_text text ending
+IsReport Gives Fails Starves (Walk number) job text ending = IsOfWalkIn Gives Fails Starves job number text ending
+IsReport Gives Fails Starves (Attest workers) job text ending = ⊥
+IsReport Gives Fails Starves Appraise job text ending = ⊥
+IsReport Gives Fails Starves (Load number) job text ending = ⊥
 
 -- the refusal is one that a command may have after those of the job
 abbrev pub IsOfMeaning : Refusal → Type 0

@@ -6,29 +6,29 @@ use Rattle.copland_cli.specs.Commands.{IsBuilt}
 use Rattle.copland_cli.specs.Input.{IsSubject, IsWithoutSubject}
 use Rattle.copland_cli.specs.Meaning.{IsReport, RefusesJob}
 use Rattle.copland_cli.specs.Port.{Port, IsUnread}
-use Rattle.copland_cli.specs.Reported.{Failing, Giving}
+use Rattle.copland_cli.specs.Reported.{Failing, Giving, Starving}
 use Rattle.copland_cli.specs.Words.{IsBadWords, Spells}
 use Rattle.copland_cli.specs.declared.words.Command.{Command}
 use Rattle.copland_cli.specs.declared.outcome.Outcome.{Outcome}
 use Rattle.copland_cli.specs.declared.outcome.Outcome.TheVariants.{Refused, Reported}
 
 -- what a command decides over an accepted job: its refusal, or its report; or there was no memory
-abbrev pub IsMeant : Giving → Failing → Command → JobView → Outcome → Type 0
-IsMeant Gives Fails command job (Refused why) = (why ≡ NoMemory) ⊎ RefusesJob Gives Fails command job why
-IsMeant Gives Fails command job (Reported report) = IsReport Gives Fails command job report.text report.ending
+abbrev pub IsMeant : Giving → Failing → Starving → Command → JobView → Outcome → Type 0
+IsMeant Gives Fails Starves command job (Refused why) = (why ≡ NoMemory) ⊎ RefusesJob Gives Fails command job why
+IsMeant Gives Fails Starves command job (Reported report) = IsReport Gives Fails Starves command job report.text report.ending
 
 -- what a command decides over a source: why it has no job to be about; or, over the job that it is about,
 -- its refusal or its report
-abbrev pub IsRun : Giving → Failing → Command → Port → Outcome → Type 0
-IsRun Gives Fails command source (Refused why) =
+abbrev pub IsRun : Giving → Failing → Starving → Command → Port → Outcome → Type 0
+IsRun Gives Fails Starves command source (Refused why) =
     IsWithoutSubject command source why ⊎ ((job : JobView) × IsSubject command source job × RefusesJob Gives Fails command job why)
-IsRun Gives Fails command source (Reported report) =
-    (job : JobView) × IsSubject command source job × IsReport Gives Fails command job report.text report.ending
+IsRun Gives Fails Starves command source (Reported report) =
+    (job : JobView) × IsSubject command source job × IsReport Gives Fails Starves command job report.text report.ending
 
 -- what the words decide, where these commands are known: the run of the command that they spell, if it is
 -- built; else a refusal, and the source isn't read
-abbrev pub IsDecided : (Command → Type 0) → Giving → Failing → List (List ℕ) → Port → Outcome → Type 0
-IsDecided Known Gives Fails words source outcome =
-    ((command : Command) × Spells words command × Known command × IsBuilt command × IsRun Gives Fails command source outcome)
+abbrev pub IsDecided : (Command → Type 0) → Giving → Failing → Starving → List (List ℕ) → Port → Outcome → Type 0
+IsDecided Known Gives Fails Starves words source outcome =
+    ((command : Command) × Spells words command × Known command × IsBuilt command × IsRun Gives Fails Starves command source outcome)
     ⊎ (IsBadWords Known words × IsUnread source × (outcome ≡ Refused Words))
     ⊎ ((command : Command) × Spells words command × Known command × ¬ IsBuilt command × IsUnread source × (outcome ≡ Refused Unbuilt))

@@ -6,19 +6,28 @@ use Rattle.bench_trait.specs.declared.bench.BenchFault.{BenchFault}
 use Rattle.session_model.specs.Session.{Session}
 use Rattle.session_model.specs.Record.{Record, IsRisingRecord, is_failed}
 use Rattle.session_model.specs.RightRecord.{IsRightRecord}
+use Rattle.place_check.specs.declared.entry.PlaceEntry.{PlaceEntry}
+use Rattle.place_check.specs.Places.{keys_of}
+use Rattle.checked_sessions.specs.Named.{place_names}
+use Rattle.session_walk.specs.Records.{AreOfWalk}
 use Rattle.report_text.specs.Events.{events_text}
+use Rattle.report_text.specs.Records.{records_text}
 use Rattle.report_text.specs.Sessions.{check_text, code_text, numbered, shape_line}
 use Rattle.copland_cli.specs.declared.ending.Ending.{Ending}
 use Rattle.copland_cli.specs.declared.ending.Ending.TheVariants.{Good, SomeFailed}
 use Rattle.copland_cli.specs.declared.session.Aspect.{Aspect}
 use Rattle.copland_cli.specs.declared.session.Aspect.TheVariants as aspects
 
--- the answers that a bench gives to a question over artefacts, and the faults with which it fails
+-- the answers that a bench gives to a question over artefacts, the faults with which it fails, and the
+-- questions over artefacts that it may leave unanswered for want of memory
 abbrev pub Giving : Type 1
 Giving = List Artefact → Ask → List ℕ → Type 0
 
 abbrev pub Failing : Type 1
 Failing = List Artefact → Ask → BenchFault → Type 0
+
+abbrev pub Starving : Type 1
+Starving = List Artefact → Ask → Type 0
 
 -- what is said of a session that has this number and isn't run
 abbrev pub aspect_text : Aspect → ℕ → Session → List ℕ
@@ -60,4 +69,12 @@ pub record IsOfRecords (Gives : Ask → List ℕ → Type 0) (Fails : Ask → Be
   pub records : List Record
   pub each : AreRecords Gives Fails keys sessions records
   pub reported : text ≡ text_of records
+  pub ended : ending ≡ ending_of (some_failed records)
+
+-- the report is the text of records that are those of the sessions as the schedule of a number plays them, and
+-- ends by whether one of them failed
+pub record IsOfWalk (Gives : Ask → List ℕ → Type 0) (Fails : Ask → BenchFault → Type 0) (Starves : Ask → Type 0) (places : List PlaceEntry) (sessions : List Session) (number : ℕ) (text : List ℕ) (ending : Ending) : Type 0 where
+  pub records : List Record
+  pub walked : AreOfWalk Gives Fails Starves (place_names places) (keys_of places) sessions number records
+  pub reported : text ≡ records_text records
   pub ended : ending ≡ ending_of (some_failed records)

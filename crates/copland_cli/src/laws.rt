@@ -2,24 +2,27 @@
 
 ghost use Rattle.std.specs.Prelude.{◌≡◌, ℕ, List};
 ghost use Rattle.job_reader.specs.Finding.{JobView, IsAccepted};
+ghost use Rattle.report_text.specs.Records.{records_text, values_text};
 ghost use Rattle.copland_cli.specs.Commands.{IsBuilt, IsPlain};
-ghost use Rattle.copland_cli.specs.Digests.{DigestGives, DigestFails};
+ghost use Rattle.copland_cli.specs.Digests.{DigestGives, DigestFails, DigestStarves, IsDoneWhereThere};
 ghost use Rattle.copland_cli.specs.Input.{is_required};
 ghost use Rattle.copland_cli.specs.Meaning.{IsDecisive, IsReport, RefusesJob};
 ghost use Rattle.copland_cli.specs.declared.ending.Ending.{Ending};
 ghost use Rattle.copland_cli.specs.declared.input.BundleNeed.{BundleNeed};
 ghost use Rattle.copland_cli.specs.declared.words.Command.{Command};
+ghost use Rattle.copland_cli.specs.declared.words.Command.TheVariants.{Eval, Walk};
 
 use bench_trait::Bench;
 use job_reader::one_finding;
 use plain_eval::digests_make_one_record;
+use session_walk::digests_make_one_walk;
 
 /// A command that is built has at most one refusal of an accepted job after the job's own, and never
 /// both that refusal and a report.
 pub fn commands_are_decisive<B: Bench>()
     ensures { (bench : B) (command : Command) (job : JobView) → IsBuilt command
         → IsDecisive (RefusesJob (B.gives bench) (B.fails bench) command job)
-        (IsReport (B.gives bench) (B.fails bench) command job) }
+        (IsReport (B.gives bench) (B.fails bench) (B.starves bench) command job) }
 {}
 
 /// Over `DigestBench`, what a command of one thread reports is a function of the bytes read: two reports
@@ -28,11 +31,23 @@ pub fn reports_follow_from_bytes(_bytes: &[u8])
     ensures { (command : Command) (need : BundleNeed) (job other : JobView) (text written : List ℕ) (ending ended : Ending) →
         IsBuilt command → IsPlain command →
         IsAccepted _bytes.now (is_required need) job → IsAccepted _bytes.now (is_required need) other →
-        IsReport DigestGives DigestFails command job text ending →
-        IsReport DigestGives DigestFails command other written ended →
+        IsReport DigestGives DigestFails DigestStarves command job text ending →
+        IsReport DigestGives DigestFails DigestStarves command other written ended →
         (text ≡ written) × (ending ≡ ended) }
 {
     one_finding(_bytes, false);
     one_finding(_bytes, true);
     digests_make_one_record();
+    digests_make_one_walk();
 }
+
+/// Over `DigestBench`, a session that is evaluated or walked is done exactly where the job has each
+/// artefact that the session asks for.
+pub fn sessions_are_done_where_artefacts_are_there()
+    ensures eval { (job : JobView) (text : List ℕ) (ending : Ending) →
+        IsReport DigestGives DigestFails DigestStarves Eval job text ending →
+        IsDoneWhereThere job.artefacts job.sessions values_text text ending }
+    ensures walk { (number : ℕ) (job : JobView) (text : List ℕ) (ending : Ending) →
+        IsReport DigestGives DigestFails DigestStarves (Walk number) job text ending →
+        IsDoneWhereThere job.artefacts job.sessions records_text text ending }
+{}

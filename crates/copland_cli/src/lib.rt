@@ -21,8 +21,12 @@ mod test_runs;
 mod tests;
 mod top;
 mod walk;
+#[cfg(test)]
+mod walk_tests;
 mod words;
 
-pub use laws::{commands_are_decisive, reports_follow_from_bytes};
+pub use laws::{
+    commands_are_decisive, reports_follow_from_bytes, sessions_are_done_where_artefacts_are_there,
+};
 pub use status::Status;
 pub use top::{plain_top, refuse};

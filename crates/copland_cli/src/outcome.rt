@@ -1,8 +1,8 @@
 ghost use Rattle.std.specs.Prelude.{◌≤◌, ◌↔◌, IsTrue, IfOk, length};
 ghost use Rattle.job_reader.specs.Accepted.{HasCheckedSessions, job_view};
-ghost use Rattle.report_text.specs.Records.{records_text, values_text};
+ghost use Rattle.report_text.specs.Records.{values_text};
 ghost use Rattle.copland_cli.specs.Commands.{IsBuilt, IsPlain};
-ghost use Rattle.copland_cli.specs.Meaning.{IsOfRecordsIn, IsReport};
+ghost use Rattle.copland_cli.specs.Meaning.{IsOfRecordsIn, IsOfWalkIn, IsReport};
 ghost use Rattle.copland_cli.specs.Outcome.{IsDecided, IsMeant, IsRun};
 ghost use Rattle.copland_cli.specs.Port.{port};
 ghost use Rattle.copland_cli.specs.Reported.{SaysOfEach, aspect_text};
@@ -10,7 +10,7 @@ ghost use Rattle.copland_cli.specs.Words.{texts};
 
 use crate::ending::Ending;
 use crate::input::{Input, read_job};
-use crate::session::{Aspect, push_aspect, records_of, some_failed};
+use crate::session::{Aspect, push_aspect, records_of, some_failed, walked};
 use crate::words::{Command, command_of};
 use bench_trait::Bench;
 use byte_ports::{Bytes, Source};
@@ -40,7 +40,7 @@ pub fn decide<S: Source, B: Bench>(
     source: &mut S,
     bench: &B,
 ) -> Outcome
-    ensures { IsDecided IsPlain (B.gives bench.now) (B.fails bench.now) (texts words.now)
+    ensures { IsDecided IsPlain (B.gives bench.now) (B.fails bench.now) (B.starves bench.now) (texts words.now)
         (port S.left S.faults source.old source.new)
         result }
 {
@@ -60,8 +60,8 @@ fn is_built(command: Command) -> bool
     ensures { IsTrue result ↔ IsBuilt command }
 {
     match command {
-        Command::Check | Command::Shape | Command::Events | Command::Code | Command::Eval => true,
-        Command::Walk(schedule) => schedule == 0,
+        Command::Check | Command::Shape | Command::Events | Command::Code => true,
+        Command::Eval | Command::Walk(_) => true,
         Command::Attest(_) | Command::Appraise | Command::Load(_) => false,
     }
 }
@@ -69,7 +69,7 @@ fn is_built(command: Command) -> bool
 /// Carries out a command.
 fn run<S: Source, B: Bench>(alloc: Global, command: Command, source: &mut S, bench: &B) -> Outcome
     requires { IsBuilt command }
-    ensures { IsRun (B.gives bench.now) (B.fails bench.now) command
+    ensures { IsRun (B.gives bench.now) (B.fails bench.now) (B.starves bench.now) command
         (port S.left S.faults source.old source.new)
         result }
 {
@@ -87,7 +87,7 @@ fn run_over<B: Bench>(alloc: Global, command: Command, job: &Job, bench: &B) -> 
     requires built { IsBuilt command }
     requires checked { HasCheckedSessions job.now }
     requires few { length job.now.sessions.items ≤ 256 }
-    ensures { IsMeant (B.gives bench.now) (B.fails bench.now) command (job_view job.now) result }
+    ensures { IsMeant (B.gives bench.now) (B.fails bench.now) (B.starves bench.now) command (job_view job.now) result }
 {
     match report_on(alloc, command, job, bench) {
         Ok(report) => Outcome::Reported(report),
@@ -105,7 +105,7 @@ fn report_on<B: Bench>(
     requires built { IsBuilt command }
     requires checked { HasCheckedSessions job.now }
     requires few { length job.now.sessions.items ≤ 256 }
-    ensures { IfOk result (λ report. IsReport (B.gives bench.now) (B.fails bench.now) command (job_view job.now) report.text report.ending) }
+    ensures { IfOk result (λ report. IsReport (B.gives bench.now) (B.fails bench.now) (B.starves bench.now) command (job_view job.now) report.text report.ending) }
 {
     match command {
         Command::Check => describe_each(alloc, Aspect::Check, job),
@@ -113,7 +113,7 @@ fn report_on<B: Bench>(
         Command::Events => describe_each(alloc, Aspect::Events, job),
         Command::Code => describe_each(alloc, Aspect::Code, job),
         Command::Eval => evaluate_each(alloc, job, bench),
-        Command::Walk(_) => walk_each(alloc, job, bench),
+        Command::Walk(number) => walk_each(alloc, job, bench, number),
         Command::Attest(_) | Command::Appraise | Command::Load(_) => unreachable!(),
     }
 }
@@ -146,12 +146,13 @@ fn evaluate_each<B: Bench>(alloc: Global, job: &Job, bench: &B) -> Result<Report
     Ok(Report { text, ending })
 }
 
-/// Reports a record of each session.
-fn walk_each<B: Bench>(alloc: Global, job: &Job, bench: &B) -> Result<Report, NoMemory>
-    requires { HasCheckedSessions job.now }
-    ensures { IfOk result (λ report. IsOfRecordsIn (B.gives bench.now) (B.fails bench.now) (job_view job.now) records_text report.text report.ending) }
+/// Plays the sessions on by the schedule of a number, and reports a record of each.
+fn walk_each<B: Bench>(alloc: Global, job: &Job, bench: &B, number: u32) -> Result<Report, NoMemory>
+    requires checked { HasCheckedSessions job.now }
+    requires few { length job.now.sessions.items ≤ 256 }
+    ensures { IfOk result (λ report. IsOfWalkIn (B.gives bench.now) (B.fails bench.now) (B.starves bench.now) (job_view job.now) number report.text report.ending) }
 {
-    let records = records_of(alloc, job, bench)?;
+    let records = walked(alloc, job, bench, number)?;
     let text = records_text(alloc, records.as_slice())?;
     let ending = Ending::of_sessions(some_failed(records.as_slice()));
     Ok(Report { text, ending })

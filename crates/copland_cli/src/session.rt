@@ -1,9 +1,11 @@
-ghost use Rattle.std.specs.Prelude.{◌≡◌, ◌++◌, IfOk, OnOk, map};
+ghost use Rattle.std.specs.Prelude.{◌≡◌, ◌≤◌, ◌++◌, IfOk, OnOk, length, map};
 ghost use Rattle.phrase_tree.specs.Term.{term};
 ghost use Rattle.place_check.specs.Places.{keys_of};
 ghost use Rattle.place_check.specs.Session.{IsCheckedAgainst, session_of};
+ghost use Rattle.checked_sessions.specs.Named.{place_names};
 ghost use Rattle.plain_eval.specs.Keyed.{HasKeys};
 ghost use Rattle.session_model.specs.Recorded.{recorded};
+ghost use Rattle.session_walk.specs.Records.{AreOfWalk};
 ghost use Rattle.job_reader.specs.Accepted.{HasCheckedSessions, job_view};
 ghost use Rattle.copland_cli.specs.Reported.{AreRecords, IsRecordOf, aspect_text, some_failed};
 
@@ -15,6 +17,7 @@ use place_check::{Checked, checked_session_has_keys};
 use plain_eval::events_have_the_keys_of_seals;
 use report_text::{push_check, push_code, push_events, push_shape};
 use session_model::Record;
+use session_walk::walk_sessions;
 use std::alloc::Global;
 
 /// What a command says of a session that it doesn't run.
@@ -59,6 +62,35 @@ pub fn records_of<B: Bench>(alloc: Global, job: &Job, bench: &B) -> Result<Vec<R
         records.push(found)?;
     }
     Ok(records)
+}
+
+/// One record of each session of a job, in their order, as the schedule of a number plays them.
+pub fn walked<B: Bench>(
+    alloc: Global,
+    job: &Job,
+    bench: &B,
+    number: u32,
+) -> Result<Vec<Record>, NoMemory>
+    requires checked { HasCheckedSessions job.now }
+    requires few { length job.now.sessions.items ≤ 256 }
+    ensures { IfOk result (λ records. AreOfWalk
+        (B.gives bench.now job.now.artefacts)
+        (B.fails bench.now job.now.artefacts)
+        (B.starves bench.now job.now.artefacts)
+        (place_names job.now.places)
+        (keys_of job.now.places)
+        (job_view job.now).sessions
+        number
+        (map recorded records.items)) }
+{
+    walk_sessions(
+        alloc,
+        job.sessions.as_slice(),
+        &job.places,
+        &job.artefacts,
+        bench,
+        number,
+    )
 }
 
 /// Whether one of the records is of a session that failed.

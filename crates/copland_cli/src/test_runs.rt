@@ -2,8 +2,9 @@
 
 use crate::status::Status;
 use crate::top::plain_top;
-use bench_trait::{Bench, DigestBench};
+use bench_trait::{Bench, DigestBench, TableBench, TableResult, TableRow};
 use byte_ports::{Behaviour, MemSink, MemSource};
+use evidence_types::Answer;
 use std::alloc::Global;
 use std::process::Abort;
 use std::test::Fail;
@@ -144,6 +145,44 @@ pub fn expect_front(
             sink.taken().starts_with(front.as_bytes()),
             "at the words {words}"
         );
+    }
+    Ok(())
+}
+
+/// Rows of a bench that answer these bytes, for the nonce of `job_of`.
+pub fn rows_of(
+    rt: &impl Abort,
+    alloc: Global,
+    answers: &[(u32, &[u8])],
+) -> Result<Vec<TableRow>, Fail> {
+    let mut rows = Vec::new(alloc);
+    for (event, bytes) in answers {
+        let found = Answer::of(bytes).expect(rt, "a short answer");
+        rows.push(row(*event, TableResult::Answer(found)))?;
+    }
+    Ok(rows)
+}
+
+/// The row of an event, for the nonce of `job_of`.
+pub fn row(event: u32, found: TableResult) -> TableRow {
+    TableRow {
+        nonce: [0, 1, 2, 3, 4, 5, 6, 7, 8, 9, 10, 11, 12, 13, 14, 15],
+        event,
+        outcome: found,
+    }
+}
+
+/// Runs each of these words on a job of the phrase, with this bench.
+pub fn expect_measured(
+    rt: &impl Abort,
+    alloc: Global,
+    bench: &TableBench,
+    table: &[(&str, &str, Status, &str)],
+) -> Result<(), Fail> {
+    for (phrase, words, status, report) in table {
+        let job = job_of(alloc, phrase)?;
+        let want = (*status, *report);
+        expect_with(rt, alloc, words, job.as_str(), &WHOLE, bench, want)?;
     }
     Ok(())
 }

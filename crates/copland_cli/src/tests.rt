@@ -1,10 +1,12 @@
-use crate::laws::{commands_are_decisive, reports_follow_from_bytes};
+use crate::laws::{
+    commands_are_decisive, reports_follow_from_bytes, sessions_are_done_where_artefacts_are_there,
+};
 use crate::status::Status;
 use crate::test_runs::{
-    Ports, WHOLE, chain_of, expect_each, expect_front, expect_run, expect_with, job_of,
+    Ports, WHOLE, chain_of, expect_each, expect_front, expect_measured, expect_run, job_of, row,
+    rows_of,
 };
-use bench_trait::{BenchFault, DigestBench, TableBench, TableResult, TableRow};
-use evidence_types::Answer;
+use bench_trait::{BenchFault, DigestBench, TableBench, TableResult};
 use std::alloc::Global;
 use std::process::Abort;
 use std::test::Fail;
@@ -40,8 +42,10 @@ fn words_are_told_apart(rt: HostRuntime) -> Result<(), Fail> {
         "--help",
     ];
     expect_words(&rt, alloc, &wrong, (Status::BadWords, "error: words\n"))?;
-    let unbuilt = ["appraise", "walk 1", "walk 4294967295", "load 0"];
-    expect_words(&rt, alloc, &unbuilt, (Status::Unbuilt, "error: unbuilt\n"))
+    let unbuilt = ["appraise", "load 0", "load 4294967295"];
+    expect_words(&rt, alloc, &unbuilt, (Status::Unbuilt, "error: unbuilt\n"))?;
+    let walks = ["walk 0", "walk 1", "walk 4294967295"];
+    expect_words(&rt, alloc, &walks, (Status::NotJson, "error: not json\n"))
 }
 
 /// Runs each of these words on the job of one session with the phrase.
@@ -210,43 +214,6 @@ fn the_longest_chains_are_reported(rt: HostRuntime) -> Result<(), Fail> {
     expect_chain(&rt, alloc, "SIG", 1024, deepest)?;
     let longest = "session 0 ok events 2048 weight 17\nphrase ";
     expect_chain(&rt, alloc, "CPY", 2048, longest)
-}
-
-/// Rows of a bench that answer these bytes, for the nonce of `job_of`.
-fn rows_of(
-    rt: &impl Abort,
-    alloc: Global,
-    answers: &[(u32, &[u8])],
-) -> Result<Vec<TableRow>, Fail> {
-    let mut rows = Vec::new(alloc);
-    for (event, bytes) in answers {
-        let found = Answer::of(bytes).expect(rt, "a short answer");
-        rows.push(row(*event, TableResult::Answer(found)))?;
-    }
-    Ok(rows)
-}
-
-fn row(event: u32, found: TableResult) -> TableRow {
-    TableRow {
-        nonce: [0, 1, 2, 3, 4, 5, 6, 7, 8, 9, 10, 11, 12, 13, 14, 15],
-        event,
-        outcome: found,
-    }
-}
-
-/// Runs each of these words on a job of the phrase, with this bench.
-fn expect_measured(
-    rt: &impl Abort,
-    alloc: Global,
-    bench: &TableBench,
-    table: &[(&str, &str, Status, &str)],
-) -> Result<(), Fail> {
-    for (phrase, words, status, report) in table {
-        let job = job_of(alloc, phrase)?;
-        let want = (*status, *report);
-        expect_with(rt, alloc, words, job.as_str(), &WHOLE, bench, want)?;
-    }
-    Ok(())
 }
 
 #[test]
@@ -436,4 +403,5 @@ fn each_status_has_its_code(rt: HostRuntime) {
 fn laws_are_called(_rt: HostRuntime) {
     commands_are_decisive::<DigestBench>();
     reports_follow_from_bytes(b"{}");
+    sessions_are_done_where_artefacts_are_there();
 }

@@ -28,14 +28,14 @@ pub fn plain_top<S: Source, K: Sink, B: Bench>(
 ) -> Status
     // Some outcome, decided by words, source and bench, and concluded at the sink.
     ensures answer { IsAnswer
-        (IsDecided IsPlain (B.gives bench.now) (B.fails bench.now) (texts words.now)
+        (IsDecided IsPlain (B.gives bench.now) (B.fails bench.now) (B.starves bench.now) (texts words.now)
         (port S.left S.faults source.old source.new))
         (port K.taken K.faults sink.old sink.new)
         result }
 
     // The same by statuses: what each says was decided and written.
     ensures cause { HasCause
-        (IsDecided IsPlain (B.gives bench.now) (B.fails bench.now) (texts words.now)
+        (IsDecided IsPlain (B.gives bench.now) (B.fails bench.now) (B.starves bench.now) (texts words.now)
         (port S.left S.faults source.old source.new))
         (port K.taken K.faults sink.old sink.new)
         result }

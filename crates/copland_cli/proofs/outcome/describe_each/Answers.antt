@@ -1,5 +1,5 @@
 -- Each session's text joins those before it.
-use Rattle.std.proofs.Common.{◌≡◌, ◌+◌, ◌++◌, List, ℕ, length, get_or, ap, sym, ◌∙◌, refl, arith}
+use Rattle.std.proofs.Common.{◌+◌, ◌++◌, List, length, get_or, ap, ◌∙◌, refl, arith}
 use Rattle.std.specs.Prelude.{map}
 use Rattle.place_check.specs.Session.{CheckedSession, session_of}
 use Rattle.report_text.specs.Sessions.{numbered}

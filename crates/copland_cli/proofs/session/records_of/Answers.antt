@@ -1,5 +1,5 @@
 -- Each session is one of the job's, and its record joins those before it.
-use Rattle.std.proofs.Common.{◌≡◌, ◌+◌, List, ℕ, length, get_or, ap, sym, ◌∙◌, arith}
+use Rattle.std.proofs.Common.{List, length, get_or, ap, ◌∙◌, arith}
 use Rattle.std.proofs.lemmas.Option.{slice_get_read}
 use Rattle.place_check.specs.Places.{keys_of}
 use Rattle.place_check.specs.Session.{CheckedSession, session_of}

@@ -1,5 +1,5 @@
 -- The records so far become those of all sessions by any records of those that are left.
-use Rattle.std.proofs.Common.{◌≡◌, drop}
+use Rattle.std.proofs.Common.{drop}
 use Rattle.std.specs.Prelude.{map}
 use Rattle.place_check.specs.Places.{keys_of}
 use Rattle.place_check.specs.Session.{session_of}
