@@ -9,8 +9,6 @@
 mod book;
 mod entry;
 mod laws;
-#[cfg(test)]
-mod tests;
 
 pub use book::SessionBook;
 pub use entry::{Ending, Entry, Flight, Move, State};
