@@ -1,6 +1,6 @@
 mod ListLemmas
 mod WalkLemmas
-mod FitLemmas
-mod AcceptLemmas
+pub mod FitLemmas
+pub mod AcceptLemmas
 mod SessionLemmas
 mod ShapeLemmas

@@ -2,3 +2,4 @@ mod RunLemmas
 mod OpenLemmas
 mod FedLemmas
 mod UpgradeLemmas
+mod AcceptanceLemmas

@@ -13,5 +13,5 @@ mod tests;
 mod walk;
 
 pub use error::StreamError;
-pub use laws::{heads_law, upgrade_law};
+pub use laws::{acceptance_law, heads_law, upgrade_law};
 pub use stream::StreamAppraiser;
