@@ -1,0 +1,39 @@
+ghost use Rattle.std.specs.Prelude.{◌≡◌, ℕ, List, Some, Result, slice_get};
+ghost use Rattle.bench_trait.specs.declared.ask.Ask.{Ask as Question};
+ghost use Rattle.bench_trait.specs.declared.bench.MeasureError.{MeasureError};
+ghost use Rattle.bench_trait.specs.Bench.{MatchMeasured};
+ghost use Rattle.atomic_table.specs.Seated.{TableId};
+ghost use Rattle.session_core.specs.declared.opened.Opened.{Opened};
+ghost use Rattle.session_core.specs.Session.{Seen};
+ghost use Rattle.session_desk.specs.declared.hand.Hand.{Hand};
+ghost use Rattle.session_desk.specs.Views.{Known, openings_of};
+ghost use Rattle.session_desk.specs.Opening.{AreOpened, AreOpenedOver, IsFit};
+ghost use Rattle.session_desk.specs.Answers.{AreOver, IsQuestion, IsMeasured};
+
+use bench_trait::{ArtefactBook, Bench};
+
+/// A law: where all sessions were opened with a bench and artefacts, what the bench gives over these
+/// artefacts for the question of a hand's ask may be recorded by the hand.
+pub fn measured_law<B: Bench>(bench: &B, artefacts: &ArtefactBook)
+    ensures { (pass : Known (Opened B)) (hand : Hand) (ask : Question) (measured : Result (List ℕ) MeasureError) →
+        AreOver bench.now artefacts.now (openings_of pass.views) →
+        IsQuestion pass hand ask →
+        MatchMeasured measured (B.gives bench.now artefacts.now ask) (B.fails bench.now artefacts.now ask) (B.starves bench.now artefacts.now ask) →
+        IsMeasured
+        (λ opening question answer. B.gives opening.bench.now opening.artefacts.now question answer)
+        (λ opening question fault. B.fails opening.bench.now opening.artefacts.now question fault)
+        (λ opening question. B.starves opening.bench.now opening.artefacts.now question)
+        pass
+        hand
+        measured }
+{}
+
+/// A law: where all sessions of a desk were opened with a bench and artefacts, each of its passes is one of
+/// that desk, over these.
+pub fn opened_law<B: Bench>(bench: &B, artefacts: &ArtefactBook)
+    ensures { (sessions : List (Seen (Opened B))) (many : ℕ) (desk : List TableId) (passes : List (Known (Opened B))) (number : ℕ) (pass : Known (Opened B)) →
+        AreOpened sessions many desk passes →
+        AreOpenedOver bench.now artefacts.now sessions →
+        slice_get passes number ≡ Some pass →
+        IsFit bench.now artefacts.now desk pass }
+{}
