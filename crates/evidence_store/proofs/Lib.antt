@@ -1,3 +1,4 @@
 pub mod NodeLemmas
 pub mod WalkLemmas
+pub mod KeptLemmas
 mod WorkedStores

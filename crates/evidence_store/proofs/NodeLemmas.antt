@@ -6,39 +6,37 @@ use Rattle.evidence_types.specs.Bytes.{FitsBundle}
 use Rattle.evidence_types.specs.Heads.{IsHead}
 use Rattle.evidence_types.specs.WellFormed.{IsWellFormed}
 use Rattle.evidence_store.specs.Kept.{Kept, value_at, Grows, Adds}
-use Rattle.evidence_store.specs.Nodes.{node_value, node_head, values_after, values_of, NamesBelow, IsSound}
-use Rattle.evidence_store.specs.declared.node.Node.{Node}
-use Rattle.evidence_store.specs.declared.node.Node.TheVariants.{Empty, Nonce, Usm, Kim, Seal, Hash, SeqPair, ParPair}
+use Rattle.evidence_store.specs.Nodes.{FullNode, empty_node, nonce_node, usm_node, kim_node, seal_node, hash_node, seq_node, par_node, node_value, node_head, values_after, values_of, NamesBelow, IsSound}
 
 pub value_at-append : (values more : List Evidence) (id : ℕ) → id < length values → value_at (values ++ more) id ≡ value_at values id
 value_at-append values more id h = get_or_append_left values more empty id h
 
 -- later values change no node
-node_value-append : (values more : List Evidence) (node : Node) → NamesBelow (length values) node → node_value (values ++ more) node ≡ node_value values node
-node_value-append values more Empty h = refl
-node_value-append values more (Nonce bytes) h = refl
-node_value-append values more (Usm event answer under) h = ap (usm event answer) (value_at-append values more under h)
-node_value-append values more (Kim event answer under) h = ap (kim event answer) (value_at-append values more under h)
-node_value-append values more (Seal event bytes under) h = ap (seal event bytes) (value_at-append values more under h)
-node_value-append values more (Hash event bytes) h = refl
-node_value-append values more (SeqPair left right) h = ap₂ seq_pair (value_at-append values more left h.0) (value_at-append values more right h.1)
-node_value-append values more (ParPair left right) h = ap₂ par_pair (value_at-append values more left h.0) (value_at-append values more right h.1)
+node_value-append : (values more : List Evidence) (node : FullNode) → NamesBelow (length values) node → node_value (values ++ more) node ≡ node_value values node
+node_value-append values more empty_node h = refl
+node_value-append values more (nonce_node bytes) h = refl
+node_value-append values more (usm_node event answer under) h = ap (usm event answer) (value_at-append values more under h)
+node_value-append values more (kim_node event answer under) h = ap (kim event answer) (value_at-append values more under h)
+node_value-append values more (seal_node event bytes under) h = ap (seal event bytes) (value_at-append values more under h)
+node_value-append values more (hash_node event bytes) h = refl
+node_value-append values more (seq_node left right) h = ap₂ seq_pair (value_at-append values more left h.0) (value_at-append values more right h.1)
+node_value-append values more (par_node left right) h = ap₂ par_pair (value_at-append values more left h.0) (value_at-append values more right h.1)
 
-pub NamesBelow-more : (low high : ℕ) (node : Node) → low ≤ high → NamesBelow low node → NamesBelow high node
-NamesBelow-more low high Empty le h = tt
-NamesBelow-more low high (Nonce bytes) le h = tt
-NamesBelow-more low high (Usm event answer under) le h = omega arith
-NamesBelow-more low high (Kim event answer under) le h = omega arith
-NamesBelow-more low high (Seal event bytes under) le h = omega arith
-NamesBelow-more low high (Hash event bytes) le h = tt
-NamesBelow-more low high (SeqPair left right) le h = (omega arith, omega arith)
-NamesBelow-more low high (ParPair left right) le h = (omega arith, omega arith)
+pub NamesBelow-more : (low high : ℕ) (node : FullNode) → low ≤ high → NamesBelow low node → NamesBelow high node
+NamesBelow-more low high empty_node le h = tt
+NamesBelow-more low high (nonce_node bytes) le h = tt
+NamesBelow-more low high (usm_node event answer under) le h = omega arith
+NamesBelow-more low high (kim_node event answer under) le h = omega arith
+NamesBelow-more low high (seal_node event bytes under) le h = omega arith
+NamesBelow-more low high (hash_node event bytes) le h = tt
+NamesBelow-more low high (seq_node left right) le h = (omega arith, omega arith)
+NamesBelow-more low high (par_node left right) le h = (omega arith, omega arith)
 
-values_after-push : (values : List Evidence) (nodes : List Node) (node : Node) → values_after values (nodes ++ node ∷ []) ≡ values_after values nodes ++ node_value (values_after values nodes) node ∷ []
+values_after-push : (values : List Evidence) (nodes : List FullNode) (node : FullNode) → values_after values (nodes ++ node ∷ []) ≡ values_after values nodes ++ node_value (values_after values nodes) node ∷ []
 values_after-push values [] node = refl
 values_after-push values (first ∷ nodes) node = values_after-push (values ++ node_value values first ∷ []) nodes node
 
-pub values_of-push : (nodes : List Node) (node : Node) → values_of (nodes ++ node ∷ []) ≡ values_of nodes ++ node_value (values_of nodes) node ∷ []
+pub values_of-push : (nodes : List FullNode) (node : FullNode) → values_of (nodes ++ node ∷ []) ≡ values_of nodes ++ node_value (values_of nodes) node ∷ []
 values_of-push nodes node = values_after-push [] nodes node
 
 -- ---- what is said of every place, when one is added
@@ -57,17 +55,17 @@ IsSound-nil = record {
 }
 
 -- a node whose parts are well formed is so itself
-node-well_formed : (values : List Evidence) (node : Node) → ((place : ℕ) → place < length values → IsWellFormed (value_at values place)) → NamesBelow (length values) node → IsHead (node_head node) → IsWellFormed (node_value values node)
-node-well_formed values Empty each names h = tt
-node-well_formed values (Nonce bytes) each names h = h
-node-well_formed values (Usm event answer under) each names h = (h.0, h.1, each under names)
-node-well_formed values (Kim event answer under) each names h = (h.0, h.1, each under names)
-node-well_formed values (Seal event bytes under) each names h = (h.0, h.1, each under names)
-node-well_formed values (Hash event bytes) each names h = h
-node-well_formed values (SeqPair left right) each names h = (each left names.0, each right names.1)
-node-well_formed values (ParPair left right) each names h = (each left names.0, each right names.1)
+node-well_formed : (values : List Evidence) (node : FullNode) → ((place : ℕ) → place < length values → IsWellFormed (value_at values place)) → NamesBelow (length values) node → IsHead (node_head node) → IsWellFormed (node_value values node)
+node-well_formed values empty_node each names h = tt
+node-well_formed values (nonce_node bytes) each names h = h
+node-well_formed values (usm_node event answer under) each names h = (h.0, h.1, each under names)
+node-well_formed values (kim_node event answer under) each names h = (h.0, h.1, each under names)
+node-well_formed values (seal_node event bytes under) each names h = (h.0, h.1, each under names)
+node-well_formed values (hash_node event bytes) each names h = h
+node-well_formed values (seq_node left right) each names h = (each left names.0, each right names.1)
+node-well_formed values (par_node left right) each names h = (each left names.0, each right names.1)
 
-pub IsSound-push : (nodes : List Node) (node : Node) → IsSound nodes → NamesBelow (length (values_of nodes)) node → FitsBundle (node_value (values_of nodes) node) → IsHead (node_head node) → IsSound (nodes ++ node ∷ [])
+pub IsSound-push : (nodes : List FullNode) (node : FullNode) → IsSound nodes → NamesBelow (length (values_of nodes)) node → FitsBundle (node_value (values_of nodes) node) → IsHead (node_head node) → IsSound (nodes ++ node ∷ [])
 IsSound-push nodes node s names fits is_head =
     let values : List Evidence = values_of nodes in
     let value : Evidence = node_value values node in
@@ -122,7 +120,7 @@ Grows-added old value new e = record {
   same = λ id h. ap (λ (vs : List Evidence). value_at vs id) e ∙ value_at-append old (value ∷ []) id h;
 }
 
-pub Adds-added : (old : Kept) (nodes new : List Node) (node : Node) (place spare : ℕ) → IsSound nodes → values_of nodes ≡ old.values → place ≡ length nodes → new ≡ nodes ++ node ∷ [] → (1 ≤ old.spare → old.spare ≡ spare + 1)
+pub Adds-added : (old : Kept) (nodes new : List FullNode) (node : FullNode) (place spare : ℕ) → IsSound nodes → values_of nodes ≡ old.values → place ≡ length nodes → new ≡ nodes ++ node ∷ [] → (1 ≤ old.spare → old.spare ≡ spare + 1)
     → Adds old (node_value old.values node) (Ok place) (record { values = values_of new; spare = spare })
 Adds-added old nodes new node place spare s seen here pushed room =
     let grown : values_of new ≡ old.values ++ node_value old.values node ∷ [] =

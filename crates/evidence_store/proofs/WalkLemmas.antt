@@ -1,15 +1,14 @@
 -- A walk: the bytes that came and those that are still to come are those of the value.
-use Rattle.std.proofs.Common.{◌≡◌, ℕ, suc, ◌+◌, ◌<◌, ◌≤◌, max, List, [], ◌∷◌, ◌++◌, length, slice_index_or, sym, ap, subst, ◌∙◌, append_assoc, append-nil, length-append, arith}
+use Rattle.std.proofs.Common.{◌≡◌, ℕ, suc, ◌+◌, ◌<◌, ◌≤◌, max, List, [], ◌∷◌, ◌++◌, length, slice_index_or, refl, sym, ap, subst, ◌∙◌, append_assoc, append-nil, length-append, arith}
 use Rattle.evidence_types.specs.Evidence.{Evidence, empty, nonce, usm, kim, seal, hash, seq_pair, par_pair}
 use Rattle.evidence_types.specs.Bytes.{encoding, nesting, be16, be32, FitsBundle}
+use Rattle.evidence_types.specs.Heads.{Head, empty_head, nonce_head, usm_head, kim_head, seal_head, hash_head, seq_head, par_head, IsHead, head_bytes}
 use Rattle.evidence_store.specs.Kept.{value_at}
-use Rattle.evidence_store.specs.Nodes.{node_value, values_of, NamesBelow, IsSound, head, parts}
-use Rattle.evidence_store.specs.Walk.{to_come, Nests, Steps}
-use Rattle.evidence_store.specs.Feeding.{IsFed}
+use Rattle.evidence_store.specs.Nodes.{FullNode, empty_node, nonce_node, usm_node, kim_node, seal_node, hash_node, seq_node, par_node, node_value, node_head, values_of, NamesBelow, IsSound, head, parts}
+use Rattle.evidence_store.specs.Walk.{to_come, Nests, Steps, IsOver}
+use Rattle.evidence_store.specs.Feeding.{IsFed, IsFedUpTo}
 use Rattle.seal_hmac.specs.declared.digester.Digester.{Digester}
 use Rattle.seal_hmac.specs.Digests.{Digests}
-use Rattle.evidence_store.specs.declared.node.Node.{Node}
-use Rattle.evidence_store.specs.declared.node.Node.TheVariants.{Empty, Nonce, Usm, Kim, Seal, Hash, SeqPair, ParPair}
 use Rattle.evidence_store.proofs.NodeLemmas.{NamesBelow-more}
 
 nesting-positive : (value : Evidence) → 1 ≤ nesting value
@@ -55,21 +54,21 @@ pair_came : (values : List Evidence) (below : List ℕ) (left right tag : ℕ) �
 pair_came values below left right tag =
     ap (λ (t : List ℕ). tag ∷ t) (append_assoc (encoding (value_at values left)) (encoding (value_at values right)) (to_come values below) ∙ sym (to_come-push_two values below right left))
 
-node_came : (values : List Evidence) (below : List ℕ) (node : Node) → encoding (node_value values node) ++ to_come values below ≡ head node ++ to_come values (below ++ parts node)
-node_came values below Empty = leaf_came values below (0 ∷ [])
-node_came values below (Nonce bytes) = leaf_came values below (1 ∷ bytes)
-node_came values below (Usm event answer under) =
+pub node_came : (values : List Evidence) (below : List ℕ) (node : FullNode) → encoding (node_value values node) ++ to_come values below ≡ head node ++ to_come values (below ++ parts node)
+node_came values below empty_node = leaf_came values below (0 ∷ [])
+node_came values below (nonce_node bytes) = leaf_came values below (1 ∷ bytes)
+node_came values below (usm_node event answer under) =
     ap (λ (t : List ℕ). t ++ to_come values below) (answer_own (be32 event) (be16 (length answer)) answer (encoding (value_at values under)) 2)
     ∙ over_came values below (2 ∷ (be32 event ++ (be16 (length answer) ++ answer))) under
-node_came values below (Kim event answer under) =
+node_came values below (kim_node event answer under) =
     ap (λ (t : List ℕ). t ++ to_come values below) (answer_own (be32 event) (be16 (length answer)) answer (encoding (value_at values under)) 3)
     ∙ over_came values below (3 ∷ (be32 event ++ (be16 (length answer) ++ answer))) under
-node_came values below (Seal event bytes under) =
+node_came values below (seal_node event bytes under) =
     ap (λ (t : List ℕ). t ++ to_come values below) (seal_own (be32 event) bytes (encoding (value_at values under)) 4)
     ∙ over_came values below (4 ∷ (be32 event ++ bytes)) under
-node_came values below (Hash event bytes) = leaf_came values below (5 ∷ (be32 event ++ bytes))
-node_came values below (SeqPair left right) = pair_came values below left right 6
-node_came values below (ParPair left right) = pair_came values below left right 7
+node_came values below (hash_node event bytes) = leaf_came values below (5 ∷ (be32 event ++ bytes))
+node_came values below (seq_node left right) = pair_came values below left right 6
+node_came values below (par_node left right) = pair_came values below left right 7
 
 -- ---- the room on the stack
 
@@ -89,7 +88,7 @@ Nests-pop values height (first ∷ below) place n =
     record { below_it = (n.0, n.1, rest.below_it); here = rest.here; room = omega (arith, rest.room) }
 
 -- after a node was taken, its parts are put on the stack
-pub record Room (values : List Evidence) (below : List ℕ) (node : Node) : Type 0 where
+pub record Room (values : List Evidence) (below : List ℕ) (node : FullNode) : Type 0 where
   pub nests : Nests values 0 (below ++ parts node)
   pub fits : length below + length (parts node) ≤ 1025
 
@@ -106,24 +105,24 @@ pair_room values below left right n l r room =
     let both : Nests values 0 ((below ++ right ∷ []) ++ left ∷ []) = Nests-push values 0 (below ++ right ∷ []) left first l (omega (arith, length-append below (right ∷ []))) in
     (subst (Nests values 0) (append_assoc below (right ∷ []) (left ∷ [])) both, omega (arith, nesting-positive (value_at values left)))
 
-node_room : (values : List Evidence) (below : List ℕ) (node : Node) → Nests values 0 below → NamesBelow (length values) node → nesting (node_value values node) + length below ≤ 1025 → Nests values 0 (below ++ parts node) × (length below + length (parts node) ≤ 1025)
-node_room values below Empty n names room = leaf_room values below n room
-node_room values below (Nonce bytes) n names room = leaf_room values below n room
-node_room values below (Usm event answer under) n names room = over_room values below under n names room
-node_room values below (Kim event answer under) n names room = over_room values below under n names room
-node_room values below (Seal event bytes under) n names room = over_room values below under n names room
-node_room values below (Hash event bytes) n names room = leaf_room values below n room
-node_room values below (SeqPair left right) n names room = pair_room values below left right n names.0 names.1 room
-node_room values below (ParPair left right) n names room = pair_room values below left right n names.0 names.1 room
+node_room : (values : List Evidence) (below : List ℕ) (node : FullNode) → Nests values 0 below → NamesBelow (length values) node → nesting (node_value values node) + length below ≤ 1025 → Nests values 0 (below ++ parts node) × (length below + length (parts node) ≤ 1025)
+node_room values below empty_node n names room = leaf_room values below n room
+node_room values below (nonce_node bytes) n names room = leaf_room values below n room
+node_room values below (usm_node event answer under) n names room = over_room values below under n names room
+node_room values below (kim_node event answer under) n names room = over_room values below under n names room
+node_room values below (seal_node event bytes under) n names room = over_room values below under n names room
+node_room values below (hash_node event bytes) n names room = leaf_room values below n room
+node_room values below (seq_node left right) n names room = pair_room values below left right n names.0 names.1 room
+node_room values below (par_node left right) n names room = pair_room values below left right n names.0 names.1 room
 
 -- ---- one step of a walk
 
-pub place_within : (nodes : List Node) (old below : List ℕ) (place : ℕ) → IsSound nodes → Nests (values_of nodes) 0 old → old ≡ below ++ place ∷ [] → place < length nodes
+pub place_within : (nodes : List FullNode) (old below : List ℕ) (place : ℕ) → IsSound nodes → Nests (values_of nodes) 0 old → old ≡ below ++ place ∷ [] → place < length nodes
 place_within nodes old below place s n e =
     let p : Pushed (values_of nodes) 0 below place = Nests-pop (values_of nodes) 0 below place (subst (Nests (values_of nodes) 0) e n) in
     omega (arith, p.here, s.counted)
 
-pub step_room : (nodes : List Node) (old below : List ℕ) (place : ℕ) (node : Node) → IsSound nodes → Nests (values_of nodes) 0 old → old ≡ below ++ place ∷ [] → node ≡ slice_index_or nodes place node → Room (values_of nodes) below node
+pub step_room : (nodes : List FullNode) (old below : List ℕ) (place : ℕ) (node : FullNode) → IsSound nodes → Nests (values_of nodes) 0 old → old ≡ below ++ place ∷ [] → node ≡ slice_index_or nodes place node → Room (values_of nodes) below node
 step_room nodes old below place node s n e read =
     let values : List Evidence = values_of nodes in
     let p : Pushed values 0 below place = Nests-pop values 0 below place (subst (Nests values 0) e n) in
@@ -133,15 +132,17 @@ step_room nodes old below place node s n e read =
     let room = node_room values below node p.below_it names (omega (arith, p.room, ap nesting stands)) in
     record { nests = room.0; fits = room.1 }
 
-pub step_taken : (nodes : List Node) (old below : List ℕ) (place : ℕ) (node : Node) (new : List ℕ) → IsSound nodes → Nests (values_of nodes) 0 old → old ≡ below ++ place ∷ [] → node ≡ slice_index_or nodes place node → new ≡ below ++ parts node → Steps (values_of nodes) old node new
-step_taken nodes old below place node new s n e read f =
+pub step_taken : (nodes : List FullNode) (old below : List ℕ) (place : ℕ) (node : FullNode) (new : List ℕ) (h : Head) → IsSound nodes → Nests (values_of nodes) 0 old → old ≡ below ++ place ∷ [] → node ≡ slice_index_or nodes place node → new ≡ below ++ parts node → h ≡ node_head node → IsHead h
+    → Steps (values_of nodes) old h new
+step_taken nodes old below place node new h s n e read f is is_head =
     let values : List Evidence = values_of nodes in
-    let h : place < length nodes = place_within nodes old below place s n e in
-    let stands : value_at values place ≡ node_value values node = s.stands place node h ∙ ap (node_value values) (sym read) in
+    let within : place < length nodes = place_within nodes old below place s n e in
+    let stands : value_at values place ≡ node_value values node = s.stands place node within ∙ ap (node_value values) (sym read) in
     record {
       came = ap (to_come values) e ∙ to_come-push values below place ∙ ap (λ (v : Evidence). encoding v ++ to_come values below) stands ∙ node_came values below node
-          ∙ ap (λ (t : List ℕ). head node ++ to_come values t) (sym f);
+          ∙ ap (λ (t : List ℕ). head node ++ to_come values t) (sym f) ∙ ap (λ (x : Head). head_bytes x ++ to_come values new) (sym is);
       nests = subst (Nests values 0) (sym f) (step_room nodes old below place node s n e read).nests;
+      is_head = is_head;
     }
 
 -- ---- whole walks
@@ -151,7 +152,7 @@ pub record Walk (values : List Evidence) (value : Evidence) (came waiting : List
   pub spelled : came ++ to_come values waiting ≡ encoding value
   pub nests : Nests values 0 waiting
 
-pub walk_begins : (nodes : List Node) (place : ℕ) (waiting : List ℕ) → IsSound nodes → place < length nodes → waiting ≡ place ∷ [] → Walk (values_of nodes) (value_at (values_of nodes) place) [] waiting
+pub walk_begins : (nodes : List FullNode) (place : ℕ) (waiting : List ℕ) → IsSound nodes → place < length nodes → waiting ≡ place ∷ [] → Walk (values_of nodes) (value_at (values_of nodes) place) [] waiting
 walk_begins nodes place waiting s h e =
     let fits : FitsBundle (value_at (values_of nodes) place) = s.fits place h in
     let first : Nests (values_of nodes) 0 (place ∷ []) = (omega (arith, s.counted), omega (arith, fits.shallow), tt) in
@@ -160,9 +161,9 @@ walk_begins nodes place waiting s h e =
       nests = subst (Nests (values_of nodes) 0) (sym e) first;
     }
 
-pub walk_steps : (values : List Evidence) (value : Evidence) (came old : List ℕ) (node : Node) (new : List ℕ) → Walk values value came old → Steps values old node new → Walk values value (came ++ head node) new
-walk_steps values value came old node new w s = record {
-  spelled = append_assoc came (head node) (to_come values new) ∙ ap (λ (t : List ℕ). came ++ t) (sym s.came) ∙ w.spelled;
+pub walk_steps : (values : List Evidence) (value : Evidence) (came old : List ℕ) (h : Head) (new : List ℕ) → Walk values value came old → Steps values old h new → Walk values value (came ++ head_bytes h) new
+walk_steps values value came old h new w s = record {
+  spelled = append_assoc came (head_bytes h) (to_come values new) ∙ ap (λ (t : List ℕ). came ++ t) (sym s.came) ∙ w.spelled;
   nests = s.nests;
 }
 
@@ -170,19 +171,19 @@ pub walk_ends : (values : List Evidence) (value : Evidence) (came waiting : List
 walk_ends values value came waiting w e =
     sym (append-nil came) ∙ ap (λ (t : List ℕ). came ++ to_come values t) (sym e) ∙ w.spelled
 
-pub head-some : (node : Node) → 1 ≤ length (head node)
-head-some Empty = omega arith
-head-some (Nonce bytes) = omega arith
-head-some (Usm event answer under) = omega arith
-head-some (Kim event answer under) = omega arith
-head-some (Seal event bytes under) = omega arith
-head-some (Hash event bytes) = omega arith
-head-some (SeqPair left right) = omega arith
-head-some (ParPair left right) = omega arith
+pub head-some : (h : Head) → 1 ≤ length (head_bytes h)
+head-some empty_head = omega arith
+head-some (nonce_head bytes) = omega arith
+head-some (usm_head event mark answer) = omega arith
+head-some (kim_head event mark answer) = omega arith
+head-some (seal_head event bytes) = omega arith
+head-some (hash_head event bytes) = omega arith
+head-some seq_head = omega arith
+head-some par_head = omega arith
 
-pub step_smaller : (values : List Evidence) (old : List ℕ) (node : Node) (new : List ℕ) → Steps values old node new → length (to_come values new) < length (to_come values old)
-step_smaller values old node new s =
-    omega (arith, ap length s.came, length-append (head node) (to_come values new), head-some node)
+pub step_smaller : (values : List Evidence) (old : List ℕ) (h : Head) (new : List ℕ) → Steps values old h new → length (to_come values new) < length (to_come values old)
+step_smaller values old h new s =
+    omega (arith, ap length s.came, length-append (head_bytes h) (to_come values new), head-some h)
 
 -- ---- the three walks
 
@@ -192,11 +193,11 @@ pub record Counted (values : List Evidence) (value : Evidence) (total : ℕ) (wa
   pub walk : Walk values value came waiting
   pub count : total ≡ length came
 
-pub Counted-steps : (values : List Evidence) (value : Evidence) (total : ℕ) (old : List ℕ) (node : Node) (size : ℕ) (new : List ℕ) → Counted values value total old → Steps values old node new → size ≡ length (head node) → Counted values value (total + size) new
-Counted-steps values value total old node size new c s e = record {
-  came = c.came ++ head node;
-  walk = walk_steps values value c.came old node new c.walk s;
-  count = omega (arith, c.count, length-append c.came (head node));
+pub Counted-steps : (values : List Evidence) (value : Evidence) (total : ℕ) (old : List ℕ) (h : Head) (size : ℕ) (new : List ℕ) → Counted values value total old → Steps values old h new → size ≡ length (head_bytes h) → Counted values value (total + size) new
+Counted-steps values value total old h size new c s e = record {
+  came = c.came ++ head_bytes h;
+  walk = walk_steps values value c.came old h new c.walk s;
+  count = omega (arith, c.count, length-append c.came (head_bytes h));
 }
 
 pub Counted-within : (values : List Evidence) (value : Evidence) (total : ℕ) (waiting : List ℕ) → Counted values value total waiting → total ≤ length (encoding value)
@@ -212,11 +213,11 @@ pub record Pushing (values : List Evidence) (value : Evidence) (old now : List �
   pub walk : Walk values value came waiting
   pub pushed : now ≡ old ++ came
 
-pub Pushing-steps : (values : List Evidence) (value : Evidence) (first now next : List ℕ) (old : List ℕ) (node : Node) (new : List ℕ) → Pushing values value first now old → Steps values old node new → next ≡ now ++ head node → Pushing values value first next new
-Pushing-steps values value first now next old node new c s e = record {
-  came = c.came ++ head node;
-  walk = walk_steps values value c.came old node new c.walk s;
-  pushed = e ∙ ap (λ (t : List ℕ). t ++ head node) c.pushed ∙ append_assoc first c.came (head node);
+pub Pushing-steps : (values : List Evidence) (value : Evidence) (first now next : List ℕ) (old : List ℕ) (h : Head) (new : List ℕ) → Pushing values value first now old → Steps values old h new → next ≡ now ++ head_bytes h → Pushing values value first next new
+Pushing-steps values value first now next old h new c s e = record {
+  came = c.came ++ head_bytes h;
+  walk = walk_steps values value c.came old h new c.walk s;
+  pushed = e ∙ ap (λ (t : List ℕ). t ++ head_bytes h) c.pushed ∙ append_assoc first c.came (head_bytes h);
 }
 
 pub Pushing-ends : (values : List Evidence) (value : Evidence) (first now : List ℕ) (waiting : List ℕ) → Pushing values value first now waiting → waiting ≡ [] → now ≡ first ++ encoding value
@@ -238,12 +239,32 @@ Feeding-begins values value first waiting w = record {
   fed = λ kind fed h. subst (λ (t : List ℕ). Digests kind t first) (sym (append-nil fed)) h;
 }
 
-pub Feeding-steps : (values : List Evidence) (value : Evidence) (first now next : Digester) (old : List ℕ) (node : Node) (new : List ℕ) → Feeding values value first now old → Steps values old node new → IsFed now (head node) next → Feeding values value first next new
-Feeding-steps values value first now next old node new c s e = record {
-  came = c.came ++ head node;
-  walk = walk_steps values value c.came old node new c.walk s;
-  fed = IsFed-then first now next c.came (head node) c.fed e;
+pub Feeding-steps : (values : List Evidence) (value : Evidence) (first now next : Digester) (old : List ℕ) (h : Head) (new : List ℕ) → Feeding values value first now old → Steps values old h new → IsFed now (head_bytes h) next → Feeding values value first next new
+Feeding-steps values value first now next old h new c s e = record {
+  came = c.came ++ head_bytes h;
+  walk = walk_steps values value c.came old h new c.walk s;
+  fed = IsFed-then first now next c.came (head_bytes h) c.fed e;
 }
 
 pub Feeding-ends : (values : List Evidence) (value : Evidence) (first now : Digester) (waiting : List ℕ) → Feeding values value first now waiting → waiting ≡ [] → IsFed first (encoding value) now
 Feeding-ends values value first now waiting c e = subst (λ (t : List ℕ). IsFed first t now) (walk_ends values value c.came waiting c.walk e) c.fed
+
+-- ---- a chain of values, each with one part
+
+pub chain_begins : (values : List Evidence) (place : ℕ) (first : Digester) → IsFedUpTo values place first place first
+chain_begins values place first = record {
+  came = [];
+  fed = λ kind fed h. subst (λ (t : List ℕ). Digests kind t first) (sym (append-nil fed)) h;
+  whole = refl;
+}
+
+pub chain_steps : (values : List Evidence) (place : ℕ) (first now next : Digester) (here under : ℕ) (h : Head) → IsFedUpTo values place first here now → IsOver values here h under → IsFed now (head_bytes h) next → IsFedUpTo values place first under next
+chain_steps values place first now next here under h c o f = record {
+  came = c.came ++ head_bytes h;
+  fed = IsFed-then first now next c.came (head_bytes h) c.fed f;
+  whole = append_assoc c.came (head_bytes h) (encoding (value_at values under)) ∙ ap (λ (t : List ℕ). c.came ++ t) (sym o.came) ∙ c.whole;
+}
+
+pub chain_ends : (values : List Evidence) (place : ℕ) (first now next : Digester) (here : ℕ) → IsFedUpTo values place first here now → IsFed now (encoding (value_at values here)) next → IsFed first (encoding (value_at values place)) next
+chain_ends values place first now next here c f =
+    subst (λ (t : List ℕ). IsFed first t next) c.whole (IsFed-then first now next c.came (encoding (value_at values here)) c.fed f)

@@ -2,18 +2,17 @@
 use Rattle.std.proofs.Common.{◌≡◌, [], ◌∷◌, true, false, refl}
 use Rattle.evidence_types.specs.Evidence.{empty, nonce, usm, kim, seal, hash, seq_pair, par_pair}
 use Rattle.evidence_store.specs.Kept.{value_at, measured, paired}
-use Rattle.evidence_store.specs.Nodes.{values_of}
-use Rattle.evidence_store.specs.declared.node.Node.TheVariants.{Empty, Nonce, Usm, Kim, Seal, Hash, SeqPair, ParPair}
+use Rattle.evidence_store.specs.Nodes.{empty_node, nonce_node, usm_node, kim_node, seal_node, hash_node, seq_node, par_node, values_of}
 
 -- two nodes stand on the first, and a part that is used twice is there twice
-shared : values_of (Nonce (9 ∷ []) ∷ Usm 0 (170 ∷ 187 ∷ []) 0 ∷ Kim 1 [] 0 ∷ SeqPair 1 2 ∷ ParPair 3 3 ∷ [])
+shared : values_of (nonce_node (9 ∷ []) ∷ usm_node 0 (170 ∷ 187 ∷ []) 0 ∷ kim_node 1 [] 0 ∷ seq_node 1 2 ∷ par_node 3 3 ∷ [])
     ≡ nonce (9 ∷ []) ∷ usm 0 (170 ∷ 187 ∷ []) (nonce (9 ∷ [])) ∷ kim 1 [] (nonce (9 ∷ []))
     ∷ seq_pair (usm 0 (170 ∷ 187 ∷ []) (nonce (9 ∷ []))) (kim 1 [] (nonce (9 ∷ [])))
     ∷ par_pair (seq_pair (usm 0 (170 ∷ 187 ∷ []) (nonce (9 ∷ []))) (kim 1 [] (nonce (9 ∷ [])))) (seq_pair (usm 0 (170 ∷ 187 ∷ []) (nonce (9 ∷ []))) (kim 1 [] (nonce (9 ∷ []))))
     ∷ []
 shared = refl
 
-without_parts : values_of (Empty ∷ Hash 4 (1 ∷ 2 ∷ []) ∷ Seal 5 (3 ∷ []) 1 ∷ []) ≡ empty ∷ hash 4 (1 ∷ 2 ∷ []) ∷ seal 5 (3 ∷ []) (hash 4 (1 ∷ 2 ∷ [])) ∷ []
+without_parts : values_of (empty_node ∷ hash_node 4 (1 ∷ 2 ∷ []) ∷ seal_node 5 (3 ∷ []) 1 ∷ []) ≡ empty ∷ hash 4 (1 ∷ 2 ∷ []) ∷ seal 5 (3 ∷ []) (hash 4 (1 ∷ 2 ∷ [])) ∷ []
 without_parts = refl
 
 second : value_at (empty ∷ nonce (9 ∷ []) ∷ []) 1 ≡ nonce (9 ∷ [])

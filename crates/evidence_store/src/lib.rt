@@ -12,6 +12,7 @@ mod digest;
 mod id;
 mod laws;
 mod node;
+mod nodes;
 mod store;
 #[cfg(test)]
 mod tests;

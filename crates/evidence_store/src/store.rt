@@ -5,12 +5,13 @@ ghost use Rattle.evidence_types.specs.Bundle.{IsBundleOf};
 ghost use Rattle.evidence_types.specs.Bytes.{encoding, bundle, FitsBundle};
 ghost use Rattle.evidence_types.specs.WellFormed.{IsWellFormed};
 ghost use Rattle.evidence_store.specs.Kept.{value_at, Adds, measured, paired};
-ghost use Rattle.evidence_store.specs.Nodes.{node_value, NamesBelow};
+ghost use Rattle.evidence_store.specs.Nodes.{AnswerWithin, NamesBelow, full, node_value};
 
 use crate::bundle::bundle;
 use crate::digest::feed_value;
 use crate::id::EvId;
-use crate::node::{Node, push_node};
+use crate::node::{Node, Span};
+use crate::nodes::Nodes;
 use byte_ports::Bytes;
 use evidence_types::Answer;
 use phrase_tree::{NoMemory, Place};
@@ -22,32 +23,33 @@ use std::marker::Model;
 ///
 /// A value is kept as one node that names its parts by their ids, so values share parts, and one may
 /// have far more bytes than the store has nodes. Every value has at most 262,144 bytes and nests at
-/// most 1,025 deep, which is the condition of each addition. A node takes about 1,060 bytes, since an
-/// answer is kept in it.
+/// most 1,025 deep, which is the condition of each addition. A node takes 48 bytes, and an answer its
+/// length beside them. Room for an addition is room for a node and for 1,024 bytes of an answer; what of it
+/// is not used is not touched.
 ///
 /// If the store has room, an addition takes no memory and succeeds; otherwise it may take memory, and
 /// an error is want of memory, after which everything is as before. An addition takes constant time,
 /// except for seals and hashes, which take time linear in the bytes that they cover.
 #[derive(Debug, Drop)]
 pub struct Store {
-    nodes: Vec<Node>,
+    kept: Nodes,
 }
 
 impl Model for Store {
-    ghost use Rattle.std.specs.Prelude.{◌-◌, vec_len, vec_capacity};
     ghost use Rattle.evidence_store.specs.Kept.{Kept, kept_code};
-    ghost use Rattle.evidence_store.specs.Nodes.{values_of, IsSound};
+    ghost use Rattle.evidence_store.specs.Nodes.{AreKept, kept_values};
+    ghost use Rattle.evidence_store.specs.Room.{HasRoom};
 
     ghost Value = { Kept };
 
     ghost coded = { kept_code };
 
     ghost view = { λ store. record {
-      values = values_of store.nodes.items;
-      spare = vec_capacity store.nodes - vec_len store.nodes;
+      values = kept_values store.kept.answers.items store.kept.list.items;
+      spare = store.kept.spare;
     } };
 
-    ghost invariant = { λ store. IsSound store.nodes.items };
+    ghost invariant = { λ store. AreKept store.kept.answers.items store.kept.list.items × HasRoom store.kept };
 }
 
 impl Store {
@@ -56,8 +58,8 @@ impl Store {
         ensures empty { IfOk result (λ store. store.values ≡ []) }
         ensures spare { IfOk result (λ store. nodes ≤ store.spare) }
     {
-        match Vec::with_capacity(alloc, nodes as usize) {
-            Ok(nodes) => Ok(Store { nodes }),
+        match Nodes::open(alloc, nodes) {
+            Ok(kept) => Ok(Store { kept }),
             Err(_) => Err(NoMemory),
         }
     }
@@ -69,20 +71,22 @@ impl Store {
         ensures err { OnErr result (self.new.spare ≡ self.old.spare) }
         ensures values { self.new.values ≡ self.old.values }
     {
-        match self.nodes.reserve(nodes as usize) {
+        match self.kept.reserve(nodes) {
             Ok(()) => Ok(()),
             Err(_) => Err(NoMemory),
         }
     }
 
+    /// Adds the value of a node without an answer.
     fn add(&mut self, node: Node) -> Result<EvId, NoMemory>
-        requires names { NamesBelow (length self.old.values) node }
-        requires fits { FitsBundle (node_value self.old.values node) }
-        ensures { Adds self.old (node_value self.old.values node) result self.new }
+        requires plain { AnswerWithin [] node }
+        requires names { NamesBelow (length self.old.values) (full [] node) }
+        requires fits { FitsBundle (node_value self.old.values (full [] node)) }
+        ensures { Adds self.old (node_value self.old.values (full [] node)) result self.new }
     {
         // Its fields are as long as a head's, so its value is well formed.
-        let _ = node.head();
-        let place = match push_node(&mut self.nodes, node) {
+        let _ = node.head(&[]);
+        let place = match self.kept.push(&[], node) {
             Ok(place) => place,
             Err(_) => return Err(NoMemory),
         };
@@ -104,7 +108,8 @@ impl Store {
     }
 
     /// Adds the answer of the measurement at this event, over the evidence before it; `kim` says
-    /// whether a target place was measured. The answer is copied.
+    /// whether a target place was measured. The answer's bytes are copied once, behind those of the
+    /// other answers.
     pub fn measured(
         &mut self,
         event: u32,
@@ -116,10 +121,14 @@ impl Store {
         requires fits { FitsBundle (measured kim event answer.now (value_at self.old.values under)) }
         ensures { Adds self.old (measured kim event answer.now (value_at self.old.values under)) result self.new }
     {
-        if kim {
-            return self.add(Node::Kim(event, answer.copy(), under));
-        }
-        self.add(Node::Usm(event, answer.copy(), under))
+        let bytes = answer.bytes();
+        let span = Span::after(self.kept.answers.len(), bytes);
+        let node = Node::answered(event, kim, span, under);
+        let place = match self.kept.push(bytes, node) {
+            Ok(place) => place,
+            Err(_) => return Err(NoMemory),
+        };
+        Ok(EvId::of(place))
     }
 
     /// Adds the seal of a place over a value, at this event of a session with that nonce, with the
@@ -139,7 +148,12 @@ impl Store {
             Adds self.old (evidence.seal event (seal_of key.now place nonce.now event (encoding value)) value) result self.new }
     {
         let mut digester = Digester::seal(key, place, nonce, event);
-        feed_value(&mut digester, &self.nodes, under.index());
+        feed_value(
+            &mut digester,
+            &self.kept.list,
+            &self.kept.answers,
+            under.index(),
+        );
         self.add(Node::Seal(event, digester.finish(), under))
     }
 
@@ -150,7 +164,12 @@ impl Store {
         ensures { Adds self.old (evidence.hash event (hash_of (encoding (value_at self.old.values under)))) result self.new }
     {
         let mut digester = Digester::hash();
-        feed_value(&mut digester, &self.nodes, under.index());
+        feed_value(
+            &mut digester,
+            &self.kept.list,
+            &self.kept.answers,
+            under.index(),
+        );
         self.add(Node::Hash(event, digester.finish()))
     }
 
@@ -176,7 +195,12 @@ impl Store {
         ensures fits { FitsBundle (value_at self.now.values id) }
     {
         self.fits_bundle(id);
-        bundle(*self.nodes.allocator(), &self.nodes, id.index())
+        bundle(
+            *self.kept.list.allocator(),
+            &self.kept.list,
+            &self.kept.answers,
+            id.index(),
+        )
     }
 
     /// Each value is well formed, and can be written as a bundle. It changes nothing.
@@ -185,6 +209,6 @@ impl Store {
         ensures fits { FitsBundle (value_at self.now.values id) }
         ensures well_formed { IsWellFormed (value_at self.now.values id) }
     {
-        let _ = self.nodes.len();
+        let _ = self.kept.list.len();
     }
 }
