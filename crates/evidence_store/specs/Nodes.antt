@@ -68,6 +68,7 @@ is_leaf (Hash event bytes) = true
 is_leaf (SeqPair left right) = false
 is_leaf (ParPair left right) = false
 
+-- nodes of the code, with their answers out of these bytes
 abbrev pub all_full : List ℕ → List Node → List FullNode
 all_full answers nodes = map (full answers) nodes
 

@@ -3,6 +3,7 @@ ghost use Rattle.evidence_types.specs.Bytes.{encoding, nesting};
 ghost use Rattle.evidence_store.specs.Kept.{value_at};
 
 use super::*;
+use crate::node::Node;
 use evidence_types::Answer;
 use phrase_tree::{Name, NoMemory, Place};
 use seal_hmac::Key;
@@ -12,6 +13,7 @@ const NONCE: [u8; 16] = [0, 1, 2, 3, 4, 5, 6, 7, 8, 9, 10, 11, 12, 13, 14, 15];
 
 fn begun(store: &mut Store, nonce: &[u8; 16]) -> Result<EvId, NoMemory>
     ensures within { IfOk result (λ id. id < length store.new.values) }
+    ensures longer { length store.old.values ≤ length store.new.values }
     ensures size { IfOk result (λ id. length (encoding (value_at store.new.values id)) ≡ 17) }
     ensures depth { IfOk result (λ id. nesting (value_at store.new.values id) ≡ 1) }
 {
@@ -27,6 +29,7 @@ fn scanned(store: &mut Store, answer: &Answer, under: EvId) -> Result<EvId, NoMe
     requires small { length (encoding (value_at store.old.values under)) ≤ 1000 }
     requires shallow { nesting (value_at store.old.values under) ≤ 1000 }
     ensures within { IfOk result (λ id. id < length store.new.values) }
+    ensures longer { length store.old.values ≤ length store.new.values }
     ensures size { IfOk result (λ id. length (encoding (value_at store.new.values id)) ≤ 2031) }
     ensures depth { IfOk result (λ id. nesting (value_at store.new.values id) ≤ 1001) }
 {
@@ -133,5 +136,51 @@ fn a_value_may_have_far_more_bytes_than_nodes(rt: HostRuntime) -> Result<(), Fai
         store.emit(hashed)?.items(),
         b"CPLB\x01\0\0\0\x25\x05\0\0\0\x07\x85\x8f\xfe\xd7\xa1\x99\xd9\x28\xe8\xbb\xc7\xe0\x40\x2d\x81\xc2\x5e\x99\x0f\x5c\x53\x70\x58\x14\x69\xe6\xa3\x9c\x60\x78\x5a\x73".as_slice()
     );
+    Ok(())
+}
+
+#[test]
+fn answers_of_all_lengths_stand_in_one_store(rt: HostRuntime) -> Result<(), Fail> {
+    let short = Answer::of(&[0xaa, 0xbb]).ok_or("two bytes")?;
+    let longer = Answer::of(&[1, 2, 3, 4, 5]).ok_or("five bytes")?;
+    let none = Answer::of(&[]).ok_or("no bytes")?;
+    let mut bytes = Vec::new(rt.alloc());
+    bytes.resize(512, 0x5a)?;
+    bytes.resize(1024, 0xa5)?;
+    let longest = Answer::of(&bytes).ok_or("1,024 bytes")?;
+    let mut store = Store::open(rt.alloc(), 1)?;
+    let nonce = begun(&mut store, &NONCE)?;
+    let of_short = scanned(&mut store, &short, nonce)?;
+    let nonce = begun(&mut store, &NONCE)?;
+    let of_longest = scanned(&mut store, &longest, nonce)?;
+    assert_eq!(rt;
+        store.emit(of_short)?.items(),
+        b"CPLB\x01\0\0\0\x1a\x02\0\0\0\0\0\x02\xaa\xbb\x01\0\x01\x02\x03\x04\x05\x06\x07\x08\x09\x0a\x0b\x0c\x0d\x0e\x0f".as_slice()
+    );
+    let mut expected = Vec::new(rt.alloc());
+    expected.extend_from_slice(b"CPLB\x01\0\0\x04\x18\x02\0\0\0\0\x04\0")?;
+    expected.extend_from_slice(&bytes)?;
+    expected.extend_from_slice(
+        b"\x01\0\x01\x02\x03\x04\x05\x06\x07\x08\x09\x0a\x0b\x0c\x0d\x0e\x0f",
+    )?;
+    assert_eq!(rt; store.emit(of_longest)?.items(), expected.as_slice());
+    let nonce = begun(&mut store, &NONCE)?;
+    let of_none = scanned(&mut store, &none, nonce)?;
+    let nonce = begun(&mut store, &NONCE)?;
+    let of_longer = scanned(&mut store, &longer, nonce)?;
+    assert_eq!(rt;
+        store.emit(of_longer)?.items(),
+        b"CPLB\x01\0\0\0\x1d\x02\0\0\0\0\0\x05\x01\x02\x03\x04\x05\x01\0\x01\x02\x03\x04\x05\x06\x07\x08\x09\x0a\x0b\x0c\x0d\x0e\x0f".as_slice()
+    );
+    assert_eq!(rt;
+        store.emit(of_none)?.items(),
+        b"CPLB\x01\0\0\0\x18\x02\0\0\0\0\0\0\x01\0\x01\x02\x03\x04\x05\x06\x07\x08\x09\x0a\x0b\x0c\x0d\x0e\x0f".as_slice()
+    );
+    Ok(())
+}
+
+#[test]
+fn a_node_takes_at_most_48_bytes(rt: HostRuntime) -> Result<(), Fail> {
+    assert!(rt; size_of::<Node>() <= 48);
     Ok(())
 }
