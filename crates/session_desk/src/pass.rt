@@ -44,6 +44,13 @@ impl<'a, B: Bench> Pass<'a, B> {
         }
     }
 
+    /// The number of the pass, which is its place among the desk's passes.
+    pub fn number(&self) -> usize
+        ensures { result ≡ self.now.number }
+    {
+        self.number as usize
+    }
+
     /// Takes a seat more, at the last session's cell.
     pub(crate) fn sit(&mut self, seat: CellPass<Session<'a, B>>) -> Result<(), NoMemory>
         requires { IsSeat self.old.number seat }
