@@ -9,3 +9,5 @@ mod OpeningFacts
 mod DeskFacts
 mod AnswerFacts
 mod FitFacts
+mod KnownFacts
+mod StayFacts

@@ -163,6 +163,10 @@ pub record IsAt {O : Type 0} (index : ℕ) (Is : View O → Type 0) (views : Lis
 abbrev pub IsHeld : {B : Type 0} → Known (Opened B) → Hand → Type 0
 IsHeld pass hand = IsAt hand.session (Awaits pass.number hand.event) pass.views
 
+-- a hand is for another ask than that of this one
+abbrev pub IsForAnother : Hand → Hand → Type 0
+IsForAnother spent hand = spent.session ≡ hand.session → spent.event ≢ hand.event
+
 -- what was measured is what the bench of the hand's session gives at the hand's ask
 abbrev pub IsMeasured : {B : Type 0} → (Opened B → Question → List ℕ → Type 0) → (Opened B → Question → BenchFault → Type 0) → (Opened B → Question → Type 0) → Known (Opened B) → Hand → Result (List ℕ) MeasureError → Type 0
 IsMeasured Gives Fails Starves pass hand measured = IsAt hand.session (Measures Gives Fails Starves hand.event measured) pass.views

@@ -1,5 +1,5 @@
 -- What a pass of a desk knows (this project's own).
-use Rattle.std.specs.Prelude.{◌≡◌, ℕ, List, [], ◌∷◌, ◌++◌, ◌==◌, Option, map, if◌then◌else◌}
+use Rattle.std.specs.Prelude.{◌≡◌, ℕ, List, [], ◌∷◌, ◌++◌, ◌==◌, Option, Some, map, if◌then◌else◌}
 use Rattle.atomic_table.specs.Seated.{TableId}
 use Rattle.session_book.specs.declared.entry.Entry.{Entry}
 use Rattle.session_core.specs.Session.{Seen, pass_of}
@@ -49,3 +49,10 @@ as_seen opening items = record { opening = opening; items = items }
 -- the same with entries more
 abbrev pub with_entries : {O : Type 0} → List Entry → Seen O → Seen O
 with_entries made seen = record { opening = seen.opening; items = seen.items ++ made }
+
+-- a pass of this number knows what the session was opened with, and its own entries are just those of its number
+-- among those that it has seen
+pub record IsKnown {O : Type 0} (number : ℕ) (view : View O) : Type 0 where
+  pub opening : O
+  pub opened : view.opening ≡ Some opening
+  pub own_is : view.mine ≡ own number view.seen

@@ -18,5 +18,5 @@ mod threads;
 
 pub use desk::Desk;
 pub use hand::{DeskError, Hand, Recorded, Turned};
-pub use laws::{measured_law, opened_law};
+pub use laws::{measured_law, opened_law, stays_law};
 pub use pass::Pass;

@@ -1,4 +1,6 @@
-ghost use Rattle.std.specs.Prelude.{◌≡◌, [], OnOk};
+ghost use Rattle.std.specs.Prelude.{◌≡◌, ℕ, [], Some, OnOk, slice_get};
+ghost use Rattle.session_core.specs.declared.opened.Opened.{Opened};
+ghost use Rattle.session_desk.specs.Views.{View, IsKnown};
 ghost use Rattle.session_desk.specs.Seats.{IsSeat};
 ghost use Rattle.session_desk.specs.Opening.{seated};
 
@@ -34,6 +36,13 @@ impl<'a, B: Bench> Model for Pass<'a, B> {
 }
 
 impl<'a, B: Bench> Pass<'a, B> {
+    /// A law: what holds of a pass at every moment, of each session.
+    pub fn knows(&self)
+        ensures { (at : ℕ) (view : View (Opened B)) → slice_get self.now.views at ≡ Some view → IsKnown self.now.number view }
+    {
+        let _ = &self.seats;
+    }
+
     /// A pass with no seat yet.
     pub(crate) fn new(alloc: Global, number: u32) -> Pass<'a, B>
         ensures { result ≡ record { number = number; views = [] } }
