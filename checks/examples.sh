@@ -14,7 +14,9 @@ for wanted in examples/*.out; do
   esac
   [ "$words" = walk ] && words='walk 0'
   words=${words//-/ }
-  # shellcheck disable=SC2086 # the words of a command
-  wants "$wanted" "$(./cerealspit $words <"$job")" "$(cat "$wanted")"
+  # The words of a command with a text stand in a file of their own.
+  [ -f "${wanted%.out}.words" ] && words=$(cat "${wanted%.out}.words")
+  read -ra list <<<"$words"
+  wants "$wanted" "$(./cerealspit "${list[@]}" <"$job")" "$(cat "$wanted")"
 done
 ends examples 'each example of the documents and of examples/ was run'

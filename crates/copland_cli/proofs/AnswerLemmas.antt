@@ -21,7 +21,7 @@ use Rattle.copland_cli.specs.declared.ending.Ending.TheVariants as endings
 use Rattle.copland_cli.specs.declared.input.BundleNeed.{BundleNeed}
 use Rattle.copland_cli.specs.declared.input.Input.{Input}
 use Rattle.copland_cli.specs.declared.input.Input.TheVariants.{Nothing, Job}
-use Rattle.copland_cli.specs.declared.words.Command.{Command}
+use Rattle.copland_cli.specs.Command.{Command}
 use Rattle.copland_cli.specs.declared.outcome.Report.{Report}
 use Rattle.copland_cli.specs.declared.outcome.Outcome.{Outcome}
 use Rattle.copland_cli.specs.declared.outcome.Outcome.TheVariants.{Refused, Reported}
@@ -63,6 +63,7 @@ refusal_cause Decided sink refusals.NoMemory status never is h = moved Decided s
 ending_cause : (Decided : Outcome → Type 0) (sink : Port) (ending : Ending) (status : Status) → status ≡ ending_status ending → ReportsWith Decided sink ending → HasCause Decided sink status
 ending_cause Decided sink endings.Good status is h = moved Decided sink statuses.Good status is h
 ending_cause Decided sink endings.SomeFailed status is h = moved Decided sink statuses.SomeFailed status is h
+ending_cause Decided sink endings.ClaimBroken status is h = moved Decided sink statuses.ClaimBroken status is h
 ending_cause Decided sink endings.Rejected status is h = moved Decided sink statuses.Rejected status is h
 
 cause : (Decided : Outcome → Type 0) (sink : Port) (outcome : Outcome) (status : Status) → ¬ Decided (Refused (refusals.Job errors.NoMemory)) → Decided outcome → IsConcluded sink outcome status → HasCause Decided sink status

@@ -1,5 +1,7 @@
 -- Over a bench whose records are one, reports on one job are one.
-use Rattle.std.proofs.Common.{◌≡◌, ◌∙◌, ap, refl, sym, subst, ℕ, List, [], ◌∷◌}
+use Rattle.std.proofs.Common.{◌≡◌, ◌∙◌, ap, refl, sym, subst, ℕ, Bool, List, [], ◌∷◌}
+use Rattle.std.specs.List.{AllZip}
+use Rattle.phrase_tree.specs.Term.{Term}
 use Rattle.place_check.specs.Places.{keys_of}
 use Rattle.session_model.specs.Record.{Record, IsRisingRecord}
 use Rattle.session_model.specs.Session.{Session}
@@ -7,12 +9,17 @@ use Rattle.job_reader.specs.Finding.{JobView, accepted}
 use Rattle.report_text.specs.Records.{records_text, values_text}
 use Rattle.checked_sessions.specs.Named.{place_names}
 use Rattle.session_walk.specs.Records.{AreOfWalk}
+use Rattle.order_policy.specs.declared.claim.Claim.{Claim}
+use Rattle.order_policy.specs.declared.judgement.Judgement.{Judgement}
+use Rattle.order_policy.specs.Judged.{IsJudged}
+use Rattle.order_policy.specs.Policy.{SpellsPolicy}
+use Rattle.report_text.specs.Sessions.{numbered}
+use Rattle.copland_cli.specs.Ordered.{AreJudged, IsOfClaims, SaysOfClaims, ending_of_claims, found_text, some_broken}
 use Rattle.copland_cli.specs.Meaning.{IsOfRecordsIn, IsOfWalkIn, IsReport}
 use Rattle.copland_cli.specs.Reported.{AreRecords, Failing, Giving, Starving, SaysOfEach, aspect_text, ending_of, some_failed}
 use Rattle.copland_cli.specs.declared.ending.Ending.{Ending}
 use Rattle.copland_cli.specs.declared.session.Aspect.TheVariants as aspects
-use Rattle.copland_cli.specs.declared.words.Command.{Command}
-use Rattle.copland_cli.specs.declared.words.Command.TheVariants.{Check, Shape, Events, Code, Eval, Walk, Attest, Appraise, Load}
+use Rattle.copland_cli.specs.Command.{Command, Check, Shape, Events, Code, Eval, Walk, Order, Attest, Appraise, Load}
 
 -- a session has one rising record
 abbrev pub HasOneRecord : Giving → Failing → Type 0
@@ -47,21 +54,48 @@ same_of_walks Gives Fails Starves walks job number text other ending ended h k =
     let same = walks job number h.records k.records h.walked k.walked in
     (h.reported ∙ ap (λ (r : List Record). records_text r) same ∙ sym k.reported, h.ended ∙ ap (λ (r : List Record). ending_of (some_failed r)) same ∙ sym k.ended)
 
-on_one_job : (Gives : Giving) (Fails : Failing) (Starves : Starving) (law : HasOneRecord Gives Fails) (walks : HasOneWalk Gives Fails Starves) (command : Command) (job : JobView) (text other : List ℕ) (ending ended : Ending) → IsReport Gives Fails Starves command job text ending → IsReport Gives Fails Starves command job other ended → (text ≡ other) × (ending ≡ ended)
-on_one_job Gives Fails Starves law walks Check job text other ending ended h k = same_each (aspect_text aspects.Check) job.sessions text other ending ended h k
-on_one_job Gives Fails Starves law walks Shape job text other ending ended h k = same_each (aspect_text aspects.Shape) job.sessions text other ending ended h k
-on_one_job Gives Fails Starves law walks Events job text other ending ended h k = same_each (aspect_text aspects.Events) job.sessions text other ending ended h k
-on_one_job Gives Fails Starves law walks Code job text other ending ended h k = same_each (aspect_text aspects.Code) job.sessions text other ending ended h k
-on_one_job Gives Fails Starves law walks Eval job text other ending ended h k = same_of_records Gives Fails law job values_text text other ending ended h k
-on_one_job Gives Fails Starves law walks (Walk number) job text other ending ended h k = same_of_walks Gives Fails Starves walks job number text other ending ended h k
-on_one_job Gives Fails Starves law walks (Attest workers) job text other ending ended h k = absurd h
-on_one_job Gives Fails Starves law walks Appraise job text other ending ended h k = absurd h
-on_one_job Gives Fails Starves law walks (Load number) job text other ending ended h k = absurd h
+-- a text spells one policy, and what is found of its claims in a phrase is one list
+pub record AreOne : Type 0 where
+  pub policy : (text : List ℕ) (one other : List Claim) → SpellsPolicy text one → SpellsPolicy text other → one ≡ other
+  pub judged : (phrase : Term) (root : List ℕ) (claims : List Claim) (one other : List Judgement) → AllZip (IsJudged phrase root) claims one → AllZip (IsJudged phrase root) claims other → one ≡ other
+
+same_found : (laws : AreOne) (claims : List Claim) (sessions : List Session) (one other : List (List Judgement)) → AllZip (AreJudged claims) sessions one → AllZip (AreJudged claims) sessions other → one ≡ other
+same_found laws claims [] [] [] h k = refl
+same_found laws claims [] [] (again ∷ other) h k = absurd k
+same_found laws claims [] (found ∷ one) other h k = absurd h
+same_found laws claims (session ∷ sessions) [] other h k = absurd h
+same_found laws claims (session ∷ sessions) (found ∷ one) [] h k = absurd k
+same_found laws claims (session ∷ sessions) (found ∷ one) (again ∷ other) h k =
+    let first : found ≡ again = laws.judged session.phrase session.root claims found again h.0 k.0 in
+    let rest : one ≡ other = same_found laws claims sessions one other h.1 k.1 in cc
+
+same_said : (laws : AreOne) (claims : List Claim) (sessions : List Session) (text other : List ℕ) (broken again : Bool) → SaysOfClaims claims sessions text broken → SaysOfClaims claims sessions other again → (text ≡ other) × (broken ≡ again)
+same_said laws claims sessions text other broken again h k =
+    let same = same_found laws claims sessions h.judgements k.judgements h.each k.each in
+    (h.reported ∙ ap (λ (found : List (List Judgement)). numbered found_text 0 found) same ∙ sym k.reported, h.some ∙ ap (λ (found : List (List Judgement)). some_broken found) same ∙ sym k.some)
+
+same_of_claims : (laws : AreOne) (spelled : List ℕ) (sessions : List Session) (text other : List ℕ) (ending ended : Ending) → IsOfClaims spelled sessions text ending → IsOfClaims spelled sessions other ended → (text ≡ other) × (ending ≡ ended)
+same_of_claims laws spelled sessions text other ending ended h k =
+    let one : k.claims ≡ h.claims = laws.policy spelled k.claims h.claims k.policy h.policy in
+    let both = same_said laws h.claims sessions text other h.broken k.broken h.said (subst (λ (claims : List Claim). SaysOfClaims claims sessions other k.broken) one k.said) in
+    (both.0, h.ended ∙ ap (λ (b : Bool). ending_of_claims b) both.1 ∙ sym k.ended)
+
+on_one_job : (Gives : Giving) (Fails : Failing) (Starves : Starving) (law : HasOneRecord Gives Fails) (walks : HasOneWalk Gives Fails Starves) (laws : AreOne) (command : Command) (job : JobView) (text other : List ℕ) (ending ended : Ending) → IsReport Gives Fails Starves command job text ending → IsReport Gives Fails Starves command job other ended → (text ≡ other) × (ending ≡ ended)
+on_one_job Gives Fails Starves law walks laws Check job text other ending ended h k = same_each (aspect_text aspects.Check) job.sessions text other ending ended h k
+on_one_job Gives Fails Starves law walks laws Shape job text other ending ended h k = same_each (aspect_text aspects.Shape) job.sessions text other ending ended h k
+on_one_job Gives Fails Starves law walks laws Events job text other ending ended h k = same_each (aspect_text aspects.Events) job.sessions text other ending ended h k
+on_one_job Gives Fails Starves law walks laws Code job text other ending ended h k = same_each (aspect_text aspects.Code) job.sessions text other ending ended h k
+on_one_job Gives Fails Starves law walks laws Eval job text other ending ended h k = same_of_records Gives Fails law job values_text text other ending ended h k
+on_one_job Gives Fails Starves law walks laws (Walk number) job text other ending ended h k = same_of_walks Gives Fails Starves walks job number text other ending ended h k
+on_one_job Gives Fails Starves law walks laws (Order claims) job text other ending ended h k = same_of_claims laws claims job.sessions text other ending ended h k
+on_one_job Gives Fails Starves law walks laws (Attest workers) job text other ending ended h k = absurd h
+on_one_job Gives Fails Starves law walks laws Appraise job text other ending ended h k = absurd h
+on_one_job Gives Fails Starves law walks laws (Load number) job text other ending ended h k = absurd h
 
 -- two jobs that are one finding are one job
 same_job : (job other : JobView) → accepted job ≡ accepted other → other ≡ job
 same_job job other same = cc
 
-pub on_one_finding : (Gives : Giving) (Fails : Failing) (Starves : Starving) (law : HasOneRecord Gives Fails) (walks : HasOneWalk Gives Fails Starves) (command : Command) (job again : JobView) (text other : List ℕ) (ending ended : Ending) → accepted job ≡ accepted again → IsReport Gives Fails Starves command job text ending → IsReport Gives Fails Starves command again other ended → (text ≡ other) × (ending ≡ ended)
-on_one_finding Gives Fails Starves law walks command job again text other ending ended same h k =
-    on_one_job Gives Fails Starves law walks command job text other ending ended h (subst (λ (j : JobView). IsReport Gives Fails Starves command j other ended) (same_job job again same) k)
+pub on_one_finding : (Gives : Giving) (Fails : Failing) (Starves : Starving) (law : HasOneRecord Gives Fails) (walks : HasOneWalk Gives Fails Starves) (laws : AreOne) (command : Command) (job again : JobView) (text other : List ℕ) (ending ended : Ending) → accepted job ≡ accepted again → IsReport Gives Fails Starves command job text ending → IsReport Gives Fails Starves command again other ended → (text ≡ other) × (ending ≡ ended)
+on_one_finding Gives Fails Starves law walks laws command job again text other ending ended same h k =
+    on_one_job Gives Fails Starves law walks laws command job text other ending ended h (subst (λ (j : JobView). IsReport Gives Fails Starves command j other ended) (same_job job again same) k)

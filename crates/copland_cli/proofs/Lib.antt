@@ -4,5 +4,6 @@ pub mod MeaningLemmas
 pub mod OutcomeLemmas
 pub mod RecordLemmas
 pub mod AnswerLemmas
+pub mod OrderLemmas
 pub mod FunctionLemmas
 pub mod DigestLemmas

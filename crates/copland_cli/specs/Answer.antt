@@ -22,12 +22,12 @@ use Rattle.copland_cli.specs.declared.ending.Ending.{Ending}
 use Rattle.copland_cli.specs.declared.ending.Ending.TheVariants as endings
 use Rattle.copland_cli.specs.declared.input.Input.{Input}
 use Rattle.copland_cli.specs.declared.input.Input.TheVariants.{Nothing, Job}
-use Rattle.copland_cli.specs.declared.words.Command.{Command}
+use Rattle.copland_cli.specs.Command.{Command}
 use Rattle.copland_cli.specs.declared.outcome.Outcome.{Outcome}
 use Rattle.copland_cli.specs.declared.outcome.Report.{Report}
 use Rattle.copland_cli.specs.declared.outcome.Outcome.TheVariants.{Refused, Reported}
 use Rattle.copland_cli.specs.declared.status.Status.{Status}
-use Rattle.copland_cli.specs.declared.status.Status.TheVariants.{Good, SomeFailed, Rejected, BadWords, ReadFault, TooLong, NotJson, BadJob, RepeatedPlace, RepeatedArtefact, RepeatedReference, BadRoot, RepeatedNonce, BadPhrase, Misplaced, Oversize, NoReference, BadBundle, WriteFault, NoMemory, Unbuilt}
+use Rattle.copland_cli.specs.declared.status.Status.TheVariants.{Good, SomeFailed, ClaimBroken, Rejected, BadWords, ReadFault, TooLong, NotJson, BadJob, RepeatedPlace, RepeatedArtefact, RepeatedReference, BadRoot, RepeatedNonce, BadPhrase, Misplaced, Oversize, NoReference, BadBundle, WriteFault, NoMemory, Unbuilt}
 
 -- some outcome, decided so and concluded so
 abbrev pub IsAnswer : (Outcome → Type 0) → Port → Status → Type 0
@@ -48,6 +48,7 @@ RefusesWith Decided sink why = Decided (Refused why) × TookLine sink (line_of w
 abbrev pub HasCause : (Outcome → Type 0) → Port → Status → Type 0
 HasCause Decided sink Good = ReportsWith Decided sink endings.Good
 HasCause Decided sink SomeFailed = ReportsWith Decided sink endings.SomeFailed
+HasCause Decided sink ClaimBroken = ReportsWith Decided sink endings.ClaimBroken
 HasCause Decided sink Rejected = ReportsWith Decided sink endings.Rejected
 HasCause Decided sink BadWords = RefusesWith Decided sink refusals.Words
 HasCause Decided sink ReadFault = RefusesWith Decided sink refusals.ReadFault

@@ -1,6 +1,5 @@
 -- Which commands run on one thread, which are built, and what each reads.
-use Rattle.copland_cli.specs.declared.words.Command.{Command}
-use Rattle.copland_cli.specs.declared.words.Command.TheVariants.{Check, Shape, Events, Code, Eval, Walk, Attest, Appraise, Load}
+use Rattle.copland_cli.specs.Command.{Command, Check, Shape, Events, Code, Eval, Walk, Order, Attest, Appraise, Load}
 use Rattle.copland_cli.specs.declared.input.BundleNeed.TheVariants.{Optional, Required}
 use Rattle.copland_cli.specs.declared.input.Input.{Input}
 use Rattle.copland_cli.specs.declared.input.Input.TheVariants.{Nothing, Job}
@@ -13,6 +12,7 @@ IsPlain Events = Unit {0}
 IsPlain Code = Unit {0}
 IsPlain Eval = Unit {0}
 IsPlain (Walk number) = Unit {0}
+IsPlain (Order text) = Unit {0}
 IsPlain (Attest workers) = ⊥
 IsPlain Appraise = Unit {0}
 IsPlain (Load number) = Unit {0}
@@ -25,6 +25,7 @@ IsBuilt Events = Unit {0}
 IsBuilt Code = Unit {0}
 IsBuilt Eval = Unit {0}
 IsBuilt (Walk number) = Unit {0}
+IsBuilt (Order text) = Unit {0}
 IsBuilt (Attest workers) = ⊥
 IsBuilt Appraise = ⊥
 IsBuilt (Load number) = ⊥
@@ -37,6 +38,7 @@ input_of Events = Job Optional
 input_of Code = Job Optional
 input_of Eval = Job Optional
 input_of (Walk number) = Job Optional
+input_of (Order text) = Job Optional
 input_of (Attest workers) = Job Optional
 input_of Appraise = Job Required
 input_of (Load number) = Nothing

@@ -11,7 +11,7 @@ use Rattle.copland_cli.specs.declared.input.BundleNeed.{BundleNeed}
 use Rattle.copland_cli.specs.declared.input.BundleNeed.TheVariants.{Optional, Required}
 use Rattle.copland_cli.specs.declared.input.Input.{Input}
 use Rattle.copland_cli.specs.declared.input.Input.TheVariants.{Nothing, Job}
-use Rattle.copland_cli.specs.declared.words.Command.{Command}
+use Rattle.copland_cli.specs.Command.{Command}
 
 -- the job must have a bundle
 abbrev pub is_required : BundleNeed → Bool

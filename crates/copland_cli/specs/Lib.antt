@@ -1,3 +1,4 @@
+pub mod Command
 pub mod Words
 pub mod Commands
 pub mod Status
@@ -5,6 +6,7 @@ pub mod Port
 pub mod Input
 pub mod Recorded
 pub mod Reported
+pub mod Ordered
 pub mod Meaning
 pub mod Digests
 pub mod Outcome

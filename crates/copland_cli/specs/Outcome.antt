@@ -8,7 +8,7 @@ use Rattle.copland_cli.specs.Meaning.{IsReport, RefusesJob}
 use Rattle.copland_cli.specs.Port.{Port, IsUnread}
 use Rattle.copland_cli.specs.Reported.{Failing, Giving, Starving}
 use Rattle.copland_cli.specs.Words.{IsBadWords, Spells}
-use Rattle.copland_cli.specs.declared.words.Command.{Command}
+use Rattle.copland_cli.specs.Command.{Command}
 use Rattle.copland_cli.specs.declared.outcome.Outcome.{Outcome}
 use Rattle.copland_cli.specs.declared.outcome.Outcome.TheVariants.{Refused, Reported}
 

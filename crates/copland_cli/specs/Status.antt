@@ -7,12 +7,13 @@ use Rattle.report_text.specs.declared.refusal.Refusal.TheVariants as refusals
 use Rattle.copland_cli.specs.declared.ending.Ending.{Ending}
 use Rattle.copland_cli.specs.declared.ending.Ending.TheVariants as endings
 use Rattle.copland_cli.specs.declared.status.Status.{Status}
-use Rattle.copland_cli.specs.declared.status.Status.TheVariants.{Good, SomeFailed, Rejected, BadWords, ReadFault, TooLong, NotJson, BadJob, RepeatedPlace, RepeatedArtefact, RepeatedReference, BadRoot, RepeatedNonce, BadPhrase, Misplaced, Oversize, NoReference, BadBundle, WriteFault, NoMemory, Unbuilt}
+use Rattle.copland_cli.specs.declared.status.Status.TheVariants.{Good, SomeFailed, ClaimBroken, Rejected, BadWords, ReadFault, TooLong, NotJson, BadJob, RepeatedPlace, RepeatedArtefact, RepeatedReference, BadRoot, RepeatedNonce, BadPhrase, Misplaced, Oversize, NoReference, BadBundle, WriteFault, NoMemory, Unbuilt}
 
 -- the exit status of each answer
 abbrev pub code_of : Status → ℕ
 code_of Good = 0
 code_of SomeFailed = 1
+code_of ClaimBroken = 1
 code_of Rejected = 1
 code_of BadWords = 2
 code_of ReadFault = 3
@@ -63,4 +64,5 @@ status_of refusals.NoMemory = NoMemory
 abbrev pub ending_status : Ending → Status
 ending_status endings.Good = Good
 ending_status endings.SomeFailed = SomeFailed
+ending_status endings.ClaimBroken = ClaimBroken
 ending_status endings.Rejected = Rejected

@@ -1,13 +1,14 @@
 -- The words of the program's commands.
 use Rattle.std.specs.Prelude.{◌≡◌, ◌^◌, ◌<◌, ◌≤◌, ℕ, List, [], ◌∷◌, codes, decimal, map, String, string_bytes}
-use Rattle.copland_cli.specs.declared.words.Command.{Command}
-use Rattle.copland_cli.specs.declared.words.Command.TheVariants.{Check, Shape, Events, Code, Eval, Walk, Attest, Appraise, Load}
+use Rattle.order_policy.specs.Policy.{IsPolicyText}
+use Rattle.copland_cli.specs.Command.{Command, Check, Shape, Events, Code, Eval, Walk, Order, Attest, Appraise, Load}
 
 -- words as texts
 abbrev pub texts : {A : Type 0} → List (String A) → List (List ℕ)
 texts words = map (λ word. string_bytes word) words
 
--- the words of a command, and no others; a number stands in decimal without leading zeros
+-- the words of a command, and no others; a number stands in decimal without leading zeros, and a text has its
+-- own form
 abbrev pub Spells : List (List ℕ) → Command → Type 0
 Spells words Check = words ≡ codes "check" ∷ []
 Spells words Shape = words ≡ codes "shape" ∷ []
@@ -15,6 +16,7 @@ Spells words Events = words ≡ codes "events" ∷ []
 Spells words Code = words ≡ codes "code" ∷ []
 Spells words Eval = words ≡ codes "eval" ∷ []
 Spells words (Walk number) = (words ≡ codes "walk" ∷ decimal number ∷ []) × (number < 2 ^ 32)
+Spells words (Order text) = (words ≡ codes "order" ∷ text ∷ []) × IsPolicyText text
 Spells words (Attest workers) =
     (words ≡ codes "attest" ∷ codes "--workers" ∷ decimal workers ∷ []) × (1 ≤ workers) × (workers ≤ 16)
 Spells words Appraise = words ≡ codes "appraise" ∷ []

@@ -1,4 +1,5 @@
 ghost use Rattle.std.specs.Prelude.{◌≡◌};
+ghost use Rattle.copland_cli.specs.Ordered.{ending_of_claims};
 ghost use Rattle.copland_cli.specs.Reported.{ending_of};
 ghost use Rattle.copland_cli.specs.Status.{ending_status};
 
@@ -10,6 +11,8 @@ pub enum Ending {
     Good,
     /// A session in it failed.
     SomeFailed,
+    /// A claim in it is broken.
+    ClaimBroken,
     /// Its verdicts aren't all good.
     Rejected,
 }
@@ -26,6 +29,17 @@ impl Ending {
         }
     }
 
+    /// The ending of a report on claims, by whether one of them is broken.
+    pub fn of_claims(broken: bool) -> Ending
+        ensures { result ≡ ending_of_claims broken }
+    {
+        if broken {
+            Ending::ClaimBroken
+        } else {
+            Ending::Good
+        }
+    }
+
     /// The status of a run that ends so.
     pub fn status(self) -> Status
         ensures { result ≡ ending_status self }
@@ -33,6 +47,7 @@ impl Ending {
         match self {
             Ending::Good => Status::Good,
             Ending::SomeFailed => Status::SomeFailed,
+            Ending::ClaimBroken => Status::ClaimBroken,
             Ending::Rejected => Status::Rejected,
         }
     }

@@ -9,11 +9,11 @@ ghost use Rattle.copland_cli.specs.Input.{is_required};
 ghost use Rattle.copland_cli.specs.Meaning.{IsDecisive, IsReport, RefusesJob};
 ghost use Rattle.copland_cli.specs.declared.ending.Ending.{Ending};
 ghost use Rattle.copland_cli.specs.declared.input.BundleNeed.{BundleNeed};
-ghost use Rattle.copland_cli.specs.declared.words.Command.{Command};
-ghost use Rattle.copland_cli.specs.declared.words.Command.TheVariants.{Eval, Walk};
+ghost use Rattle.copland_cli.specs.Command.{Command, Eval, Walk};
 
 use bench_trait::Bench;
 use job_reader::one_finding;
+use order_policy::{judged_law, policy_law};
 use plain_eval::digests_make_one_record;
 use session_walk::digests_make_one_walk;
 
@@ -39,6 +39,8 @@ pub fn reports_follow_from_bytes(_bytes: &[u8])
     one_finding(_bytes, true);
     digests_make_one_record();
     digests_make_one_walk();
+    policy_law();
+    judged_law();
 }
 
 /// Over `DigestBench`, a session that is evaluated or walked is done exactly where the job has each

@@ -10,6 +10,9 @@ mod input;
 #[cfg(test)]
 mod job_tests;
 mod laws;
+mod order;
+#[cfg(test)]
+mod order_tests;
 mod outcome;
 #[cfg(test)]
 mod refusal_tests;

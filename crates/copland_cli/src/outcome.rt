@@ -1,8 +1,10 @@
 ghost use Rattle.std.specs.Prelude.{◌≤◌, ◌↔◌, IsTrue, IfOk, length};
 ghost use Rattle.job_reader.specs.Accepted.{HasCheckedSessions, job_view};
 ghost use Rattle.report_text.specs.Records.{values_text};
+ghost use Rattle.copland_cli.specs.Command.{command_view};
 ghost use Rattle.copland_cli.specs.Commands.{IsBuilt, IsPlain};
 ghost use Rattle.copland_cli.specs.Meaning.{IsOfRecordsIn, IsOfWalkIn, IsReport};
+ghost use Rattle.copland_cli.specs.Ordered.{IsOfClaims};
 ghost use Rattle.copland_cli.specs.Outcome.{IsDecided, IsMeant, IsRun};
 ghost use Rattle.copland_cli.specs.Port.{port};
 ghost use Rattle.copland_cli.specs.Reported.{SaysOfEach, aspect_text};
@@ -10,11 +12,13 @@ ghost use Rattle.copland_cli.specs.Words.{texts};
 
 use crate::ending::Ending;
 use crate::input::{Input, read_job};
+use crate::order::judge_each;
 use crate::session::{Aspect, push_aspect, records_of, some_failed, walked};
 use crate::words::{Command, command_of};
 use bench_trait::Bench;
 use byte_ports::{Bytes, Source};
 use job_reader::Job;
+use order_policy::OrderPolicy;
 use phrase_tree::NoMemory;
 use report_text::{Refusal, records_text, values_text};
 use std::alloc::Global;
@@ -56,20 +60,25 @@ pub fn decide<S: Source, B: Bench>(
     }
 }
 
-fn is_built(command: Command) -> bool
-    ensures { IsTrue result ↔ IsBuilt command }
+fn is_built(command: Command<'_>) -> bool
+    ensures { IsTrue result ↔ IsBuilt (command_view command.entry) }
 {
     match command {
         Command::Check | Command::Shape | Command::Events | Command::Code => true,
-        Command::Eval | Command::Walk(_) => true,
+        Command::Eval | Command::Walk(_) | Command::Order(_) => true,
         Command::Attest(_) | Command::Appraise | Command::Load(_) => false,
     }
 }
 
 /// Carries out a command.
-fn run<S: Source, B: Bench>(alloc: Global, command: Command, source: &mut S, bench: &B) -> Outcome
-    requires { IsBuilt command }
-    ensures { IsRun (B.gives bench.now) (B.fails bench.now) (B.starves bench.now) command
+fn run<S: Source, B: Bench>(
+    alloc: Global,
+    command: Command<'_>,
+    source: &mut S,
+    bench: &B,
+) -> Outcome
+    requires { IsBuilt (command_view command) }
+    ensures { IsRun (B.gives bench.now) (B.fails bench.now) (B.starves bench.now) (command_view command.entry)
         (port S.left S.faults source.old source.new)
         result }
 {
@@ -83,11 +92,11 @@ fn run<S: Source, B: Bench>(alloc: Global, command: Command, source: &mut S, ben
 }
 
 /// Carries out a command over an accepted job.
-fn run_over<B: Bench>(alloc: Global, command: Command, job: &Job, bench: &B) -> Outcome
-    requires built { IsBuilt command }
+fn run_over<B: Bench>(alloc: Global, command: Command<'_>, job: &Job, bench: &B) -> Outcome
+    requires built { IsBuilt (command_view command) }
     requires checked { HasCheckedSessions job.now }
     requires few { length job.now.sessions.items ≤ 256 }
-    ensures { IsMeant (B.gives bench.now) (B.fails bench.now) (B.starves bench.now) command (job_view job.now) result }
+    ensures { IsMeant (B.gives bench.now) (B.fails bench.now) (B.starves bench.now) (command_view command.entry) (job_view job.now) result }
 {
     match report_on(alloc, command, job, bench) {
         Ok(report) => Outcome::Reported(report),
@@ -98,14 +107,14 @@ fn run_over<B: Bench>(alloc: Global, command: Command, job: &Job, bench: &B) -> 
 /// The report of a command on an accepted job.
 fn report_on<B: Bench>(
     alloc: Global,
-    command: Command,
+    command: Command<'_>,
     job: &Job,
     bench: &B,
 ) -> Result<Report, NoMemory>
-    requires built { IsBuilt command }
+    requires built { IsBuilt (command_view command) }
     requires checked { HasCheckedSessions job.now }
     requires few { length job.now.sessions.items ≤ 256 }
-    ensures { IfOk result (λ report. IsReport (B.gives bench.now) (B.fails bench.now) (B.starves bench.now) command (job_view job.now) report.text report.ending) }
+    ensures { IfOk result (λ report. IsReport (B.gives bench.now) (B.fails bench.now) (B.starves bench.now) (command_view command.entry) (job_view job.now) report.text report.ending) }
 {
     match command {
         Command::Check => describe_each(alloc, Aspect::Check, job),
@@ -114,6 +123,7 @@ fn report_on<B: Bench>(
         Command::Code => describe_each(alloc, Aspect::Code, job),
         Command::Eval => evaluate_each(alloc, job, bench),
         Command::Walk(number) => walk_each(alloc, job, bench, number),
+        Command::Order(text) => judge_claims(alloc, job, text),
         Command::Attest(_) | Command::Appraise | Command::Load(_) => unreachable!(),
     }
 }
@@ -156,4 +166,20 @@ fn walk_each<B: Bench>(alloc: Global, job: &Job, bench: &B, number: u32) -> Resu
     let text = records_text(alloc, records.as_slice())?;
     let ending = Ending::of_sessions(some_failed(records.as_slice()));
     Ok(Report { text, ending })
+}
+
+/// Judges the claims that a text spells in each session.
+fn judge_claims(alloc: Global, job: &Job, text: &str) -> Result<Report, NoMemory>
+    requires { length job.now.sessions.items ≤ 256 }
+    ensures { IfOk result (λ report. IsOfClaims text.now (job_view job.now).sessions report.text report.ending) }
+{
+    // The words of the command spell a policy, so only memory can be wanting here.
+    let Ok(policy) = OrderPolicy::read(alloc, text) else {
+        return Err(NoMemory);
+    };
+    let claimed = judge_each(alloc, &policy, job)?;
+    Ok(Report {
+        text: claimed.text,
+        ending: Ending::of_claims(claimed.broken),
+    })
 }

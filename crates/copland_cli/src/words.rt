@@ -1,12 +1,15 @@
-ghost use Rattle.std.specs.Prelude.{◌≡◌, ◌^◌, ◌<◌, ◌≤◌, ℕ, MatchOption, codes, decimal, [], ◌∷◌};
+ghost use Rattle.std.specs.Prelude.{◌≡◌, ◌↔◌, ◌^◌, ◌<◌, ◌≤◌, ℕ, IsTrue, MatchOption, codes, decimal, [], ◌∷◌};
+ghost use Rattle.order_policy.specs.Policy.{IsPolicyText};
+ghost use Rattle.copland_cli.specs.Command.{command_view};
 ghost use Rattle.copland_cli.specs.Words.{IsNoNumber, IsNoCommand, Spells, texts};
 
 use crate::input::{BundleNeed, Input};
 use itoa::Buffer;
+use order_policy::bad_claim;
 
 /// A command of the program.
-#[derive(Clone, Copy, Debug, PartialEq, Eq)]
-pub enum Command {
+#[derive(Clone, Copy, Debug)]
+pub enum Command<'w> {
     Check,
     Shape,
     Events,
@@ -14,6 +17,8 @@ pub enum Command {
     Eval,
     /// A walk by the schedule of this number.
     Walk(u32),
+    /// Judges the claims of this policy text.
+    Order(&'w str),
     /// A run by this many workers, from 1 to 16.
     Attest(u32),
     Appraise,
@@ -21,18 +26,20 @@ pub enum Command {
     Load(u32),
 }
 
-impl Command {
+impl Command<'_> {
     ghost use Rattle.copland_cli.specs.Commands.{input_of};
 
     /// What the command reads.
     pub fn input(self) -> Input
-        ensures { result ≡ input_of self }
+        ensures { result ≡ input_of (command_view self.entry) }
     {
         match self {
             Command::Check | Command::Shape | Command::Events | Command::Code | Command::Eval => {
                 Input::Job(BundleNeed::Optional)
             }
-            Command::Walk(_) | Command::Attest(_) => Input::Job(BundleNeed::Optional),
+            Command::Walk(_) | Command::Order(_) | Command::Attest(_) => {
+                Input::Job(BundleNeed::Optional)
+            }
             Command::Appraise => Input::Job(BundleNeed::Required),
             Command::Load(_) => Input::Nothing,
         }
@@ -43,19 +50,19 @@ impl Command {
 const MOST_WORKERS: u32 = 16;
 
 /// The command that these words spell, if any.
-pub fn command_of(words: &[String]) -> Option<Command>
-    ensures { MatchOption result (IsNoCommand (texts words.now)) (λ command. Spells (texts words.now) command) }
+pub fn command_of(words: &[String]) -> Option<Command<'_>>
+    ensures { MatchOption result (IsNoCommand (texts words.now)) (λ command. Spells (texts words.now) (command_view command)) }
 {
     match words {
         [word] => single(word.as_str()),
-        [word, number] => numbered(word.as_str(), number.as_str()),
+        [word, second] => paired(word.as_str(), second.as_str()),
         [word, flag, number] => flagged(word.as_str(), flag.as_str(), number.as_str()),
         _ => None,
     }
 }
 
-fn single(word: &str) -> Option<Command>
-    ensures { MatchOption result (IsNoCommand (word.now ∷ [])) (λ command. Spells (word.now ∷ []) command) }
+fn single(word: &str) -> Option<Command<'static>>
+    ensures { MatchOption result (IsNoCommand (word.now ∷ [])) (λ command. Spells (word.now ∷ []) (command_view command)) }
 {
     if word == "check" {
         return Some(Command::Check);
@@ -78,12 +85,18 @@ fn single(word: &str) -> Option<Command>
     None
 }
 
-fn numbered(word: &str, number: &str) -> Option<Command>
+fn paired<'w>(word: &str, second: &'w str) -> Option<Command<'w>>
     ensures { MatchOption result
-        (IsNoCommand (word.now ∷ number.now ∷ []))
-        (λ command. Spells (word.now ∷ number.now ∷ []) command) }
+        (IsNoCommand (word.now ∷ second.now ∷ []))
+        (λ command. Spells (word.now ∷ second.now ∷ []) (command_view command)) }
 {
-    let Some(number) = number_of(number) else {
+    if word == "order" {
+        if is_policy(second) {
+            return Some(Command::Order(second));
+        }
+        return None;
+    }
+    let Some(number) = number_of(second) else {
         return None;
     };
     if word == "walk" {
@@ -95,10 +108,17 @@ fn numbered(word: &str, number: &str) -> Option<Command>
     None
 }
 
-fn flagged(word: &str, flag: &str, number: &str) -> Option<Command>
+/// Whether a text is that of claims about the order of measurements.
+fn is_policy(text: &str) -> bool
+    ensures { IsTrue result ↔ IsPolicyText text.now }
+{
+    bad_claim(text).is_none()
+}
+
+fn flagged(word: &str, flag: &str, number: &str) -> Option<Command<'static>>
     ensures { MatchOption result
         (IsNoCommand (word.now ∷ flag.now ∷ number.now ∷ []))
-        (λ command. Spells (word.now ∷ flag.now ∷ number.now ∷ []) command) }
+        (λ command. Spells (word.now ∷ flag.now ∷ number.now ∷ []) (command_view command)) }
 {
     let Some(workers) = workers_of(number) else {
         return None;
