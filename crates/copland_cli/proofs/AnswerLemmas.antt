@@ -64,6 +64,7 @@ ending_cause : (Decided : Outcome → Type 0) (sink : Port) (ending : Ending) (s
 ending_cause Decided sink endings.Good status is h = moved Decided sink statuses.Good status is h
 ending_cause Decided sink endings.SomeFailed status is h = moved Decided sink statuses.SomeFailed status is h
 ending_cause Decided sink endings.ClaimBroken status is h = moved Decided sink statuses.ClaimBroken status is h
+ending_cause Decided sink endings.Denied status is h = moved Decided sink statuses.Denied status is h
 ending_cause Decided sink endings.Rejected status is h = moved Decided sink statuses.Rejected status is h
 
 cause : (Decided : Outcome → Type 0) (sink : Port) (outcome : Outcome) (status : Status) → ¬ Decided (Refused (refusals.Job errors.NoMemory)) → Decided outcome → IsConcluded sink outcome status → HasCause Decided sink status

@@ -14,12 +14,18 @@ use Rattle.order_policy.specs.declared.judgement.Judgement.{Judgement}
 use Rattle.order_policy.specs.Judged.{IsJudged}
 use Rattle.order_policy.specs.Policy.{SpellsPolicy}
 use Rattle.report_text.specs.Sessions.{numbered}
+use Rattle.std.specs.Prelude.{Option}
+use Rattle.release_policy.specs.declared.denied.Denial.{Denial}
+use Rattle.release_policy.specs.declared.rule.Rule.{Rule}
+use Rattle.release_policy.specs.Choices.{Chooses}
+use Rattle.release_policy.specs.PolicyText.{IsPolicyText}
+use Rattle.copland_cli.specs.Chosen.{IsOfChoice, choice_text, ending_of_choice}
 use Rattle.copland_cli.specs.Ordered.{AreJudged, IsOfClaims, SaysOfClaims, ending_of_claims, found_text, some_broken}
 use Rattle.copland_cli.specs.Meaning.{IsOfRecordsIn, IsOfWalkIn, IsReport}
 use Rattle.copland_cli.specs.Reported.{AreRecords, Failing, Giving, Starving, SaysOfEach, aspect_text, ending_of, some_failed}
 use Rattle.copland_cli.specs.declared.ending.Ending.{Ending}
 use Rattle.copland_cli.specs.declared.session.Aspect.TheVariants as aspects
-use Rattle.copland_cli.specs.Command.{Command, Check, Shape, Events, Code, Eval, Walk, Order, Attest, Appraise, Load}
+use Rattle.copland_cli.specs.Command.{Command, Check, Shape, Events, Code, Eval, Walk, Order, Choose, Attest, Appraise, Load}
 
 -- a session has one rising record
 abbrev pub HasOneRecord : Giving → Failing → Type 0
@@ -54,10 +60,12 @@ same_of_walks Gives Fails Starves walks job number text other ending ended h k =
     let same = walks job number h.records k.records h.walked k.walked in
     (h.reported ∙ ap (λ (r : List Record). records_text r) same ∙ sym k.reported, h.ended ∙ ap (λ (r : List Record). ending_of (some_failed r)) same ∙ sym k.ended)
 
--- a text spells one policy, and what is found of its claims in a phrase is one list
+-- a text spells one list of claims, what is found of them in a phrase is one list, and a text is that of one
+-- release policy
 pub record AreOne : Type 0 where
   pub policy : (text : List ℕ) (one other : List Claim) → SpellsPolicy text one → SpellsPolicy text other → one ≡ other
   pub judged : (phrase : Term) (root : List ℕ) (claims : List Claim) (one other : List Judgement) → AllZip (IsJudged phrase root) claims one → AllZip (IsJudged phrase root) claims other → one ≡ other
+  pub release : (text : List ℕ) (one other : List Rule) → IsPolicyText text one → IsPolicyText text other → one ≡ other
 
 same_found : (laws : AreOne) (claims : List Claim) (sessions : List Session) (one other : List (List Judgement)) → AllZip (AreJudged claims) sessions one → AllZip (AreJudged claims) sessions other → one ≡ other
 same_found laws claims [] [] [] h k = refl
@@ -80,6 +88,16 @@ same_of_claims laws spelled sessions text other ending ended h k =
     let both = same_said laws h.claims sessions text other h.broken k.broken h.said (subst (λ (claims : List Claim). SaysOfClaims claims sessions other k.broken) one k.said) in
     (both.0, h.ended ∙ ap (λ (b : Bool). ending_of_claims b) both.1 ∙ sym k.ended)
 
+same_of_choices : (laws : AreOne) (spelled : List ℕ) (sessions : List Session) (text other : List ℕ) (ending ended : Ending) → IsOfChoice spelled sessions text ending → IsOfChoice spelled sessions other ended → (text ≡ other) × (ending ≡ ended)
+same_of_choices laws spelled sessions text other ending ended h k =
+    let one : k.policy ≡ h.policy = laws.release spelled k.policy h.policy k.read h.read in
+    let again : Chooses h.policy sessions k.choice = subst (λ (policy : List Rule). Chooses policy sessions k.choice) one k.chooses in
+    let chosen : h.choice.chosen ≡ k.choice.chosen = h.chooses.chosen ∙ sym again.chosen in
+    let denials : h.choice.denials.items ≡ k.choice.denials.items = h.chooses.denials ∙ sym again.denials in (
+      h.reported ∙ ap (λ (d : List Denial). choice_text sessions d h.choice.chosen) denials ∙ ap (λ (c : Option ℕ). choice_text sessions k.choice.denials.items c) chosen ∙ sym k.reported,
+      h.ended ∙ ap (λ (c : Option ℕ). ending_of_choice c) chosen ∙ sym k.ended,
+    )
+
 on_one_job : (Gives : Giving) (Fails : Failing) (Starves : Starving) (law : HasOneRecord Gives Fails) (walks : HasOneWalk Gives Fails Starves) (laws : AreOne) (command : Command) (job : JobView) (text other : List ℕ) (ending ended : Ending) → IsReport Gives Fails Starves command job text ending → IsReport Gives Fails Starves command job other ended → (text ≡ other) × (ending ≡ ended)
 on_one_job Gives Fails Starves law walks laws Check job text other ending ended h k = same_each (aspect_text aspects.Check) job.sessions text other ending ended h k
 on_one_job Gives Fails Starves law walks laws Shape job text other ending ended h k = same_each (aspect_text aspects.Shape) job.sessions text other ending ended h k
@@ -88,6 +106,7 @@ on_one_job Gives Fails Starves law walks laws Code job text other ending ended h
 on_one_job Gives Fails Starves law walks laws Eval job text other ending ended h k = same_of_records Gives Fails law job values_text text other ending ended h k
 on_one_job Gives Fails Starves law walks laws (Walk number) job text other ending ended h k = same_of_walks Gives Fails Starves walks job number text other ending ended h k
 on_one_job Gives Fails Starves law walks laws (Order claims) job text other ending ended h k = same_of_claims laws claims job.sessions text other ending ended h k
+on_one_job Gives Fails Starves law walks laws (Choose policy) job text other ending ended h k = same_of_choices laws policy job.sessions text other ending ended h k
 on_one_job Gives Fails Starves law walks laws (Attest workers) job text other ending ended h k = absurd h
 on_one_job Gives Fails Starves law walks laws Appraise job text other ending ended h k = absurd h
 on_one_job Gives Fails Starves law walks laws (Load number) job text other ending ended h k = absurd h

@@ -5,5 +5,6 @@ pub mod OutcomeLemmas
 pub mod RecordLemmas
 pub mod AnswerLemmas
 pub mod OrderLemmas
+pub mod ChoiceLemmas
 pub mod FunctionLemmas
 pub mod DigestLemmas

@@ -4,7 +4,7 @@ use Rattle.report_text.specs.declared.refusal.Refusal.{Refusal}
 use Rattle.copland_cli.specs.Commands.{IsBuilt}
 use Rattle.copland_cli.specs.Meaning.{IsDecisive, IsReport, RefusesJob}
 use Rattle.copland_cli.specs.Reported.{Failing, Giving, Starving}
-use Rattle.copland_cli.specs.Command.{Command, Check, Shape, Events, Code, Eval, Walk, Order, Attest, Appraise, Load}
+use Rattle.copland_cli.specs.Command.{Command, Check, Shape, Events, Code, Eval, Walk, Order, Choose, Attest, Appraise, Load}
 
 refuses_none : (Gives : Giving) (Fails : Failing) (command : Command) (job : JobView) (why : Refusal) → ¬ RefusesJob Gives Fails command job why
 refuses_none Gives Fails Check job why h = h
@@ -14,6 +14,7 @@ refuses_none Gives Fails Code job why h = h
 refuses_none Gives Fails Eval job why h = h
 refuses_none Gives Fails (Walk number) job why h = h
 refuses_none Gives Fails (Order text) job why h = h
+refuses_none Gives Fails (Choose text) job why h = h
 refuses_none Gives Fails (Attest workers) job why h = h
 refuses_none Gives Fails Appraise job why h = h
 refuses_none Gives Fails (Load number) job why h = h

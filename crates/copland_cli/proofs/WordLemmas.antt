@@ -3,7 +3,7 @@ use Rattle.std.proofs.Common.{◌≡◌, ◌<◌, ◌^◌, ℕ, List, [], ◌∷
 use Rattle.std.specs.Prelude.{codes, decimal, nat_eq, if◌then◌else◌, Option, None, Some}
 use lib.Pointwise.{pointwise}
 use Rattle.std.proofs.lemmas.Fmt.{decimal_injective}
-use Rattle.copland_cli.specs.Command.{Command, Check, Shape, Events, Code, Eval, Walk, Order, Attest, Appraise, Load}
+use Rattle.copland_cli.specs.Command.{Command, Check, Shape, Events, Code, Eval, Walk, Order, Choose, Attest, Appraise, Load}
 use Rattle.copland_cli.specs.Commands.{IsBuilt}
 use Rattle.copland_cli.specs.Words.{Spells}
 
@@ -16,6 +16,7 @@ data Kind : Type 0 where
   eval : Kind
   walk : Kind
   order : Kind
+  choose : Kind
   attest : Kind
   appraise : Kind
   load : Kind
@@ -28,6 +29,7 @@ kind_of Code = code
 kind_of Eval = eval
 kind_of (Walk number) = walk
 kind_of (Order text) = order
+kind_of (Choose text) = choose
 kind_of (Attest workers) = attest
 kind_of Appraise = appraise
 kind_of (Load number) = load
@@ -41,6 +43,7 @@ number_of Code = 0
 number_of Eval = 0
 number_of (Walk number) = number
 number_of (Order text) = 0
+number_of (Choose text) = 0
 number_of (Attest workers) = workers
 number_of Appraise = 0
 number_of (Load number) = number
@@ -54,6 +57,7 @@ last_of Code = decimal 0
 last_of Eval = decimal 0
 last_of (Walk number) = decimal number
 last_of (Order text) = text
+last_of (Choose text) = text
 last_of (Attest workers) = decimal workers
 last_of Appraise = decimal 0
 last_of (Load number) = decimal number
@@ -66,6 +70,7 @@ command_of code number text = Code
 command_of eval number text = Eval
 command_of walk number text = Walk number
 command_of order number text = Order text
+command_of choose number text = Choose text
 command_of attest number text = Attest number
 command_of appraise number text = Appraise
 command_of load number text = Load number
@@ -78,6 +83,7 @@ parts Code = refl
 parts Eval = refl
 parts (Walk number) = refl
 parts (Order text) = refl
+parts (Choose text) = refl
 parts (Attest workers) = refl
 parts Appraise = refl
 parts (Load number) = refl
@@ -91,6 +97,7 @@ number_word code last = last
 number_word eval last = last
 number_word walk last = last
 number_word order last = decimal 0
+number_word choose last = decimal 0
 number_word attest last = last
 number_word appraise last = last
 number_word load last = last
@@ -103,6 +110,7 @@ number_is Code = refl
 number_is Eval = refl
 number_is (Walk number) = refl
 number_is (Order text) = refl
+number_is (Choose text) = refl
 number_is (Attest workers) = refl
 number_is Appraise = refl
 number_is (Load number) = refl
@@ -117,6 +125,7 @@ kind_named word =
     else if pointwise nat_eq word (codes "eval") then Some eval
     else if pointwise nat_eq word (codes "walk") then Some walk
     else if pointwise nat_eq word (codes "order") then Some order
+    else if pointwise nat_eq word (codes "choose") then Some choose
     else if pointwise nat_eq word (codes "attest") then Some attest
     else if pointwise nat_eq word (codes "appraise") then Some appraise
     else if pointwise nat_eq word (codes "load") then Some load
@@ -147,6 +156,7 @@ tells words Code h = record { kind = ap (λ w. kind_among w) h; last = ap (λ w.
 tells words Eval h = record { kind = ap (λ w. kind_among w) h; last = ap (λ w. last_among w) h; small = omega arith }
 tells words (Walk number) h = record { kind = ap (λ w. kind_among w) h.0; last = ap (λ w. last_among w) h.0; small = h.1 }
 tells words (Order text) h = record { kind = ap (λ w. kind_among w) h.0; last = ap (λ w. last_among w) h.0; small = omega arith }
+tells words (Choose text) h = record { kind = ap (λ w. kind_among w) h.0; last = ap (λ w. last_among w) h.0; small = omega arith }
 tells words (Attest workers) h = record { kind = ap (λ w. kind_among w) h.0; last = ap (λ w. last_among w) h.0; small = omega (arith, h.2) }
 tells words Appraise h = record { kind = ap (λ w. kind_among w) h; last = ap (λ w. last_among w) h; small = omega arith }
 tells words (Load number) h = record { kind = ap (λ w. kind_among w) h.0; last = ap (λ w. last_among w) h.0; small = h.1 }

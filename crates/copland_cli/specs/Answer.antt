@@ -27,7 +27,7 @@ use Rattle.copland_cli.specs.declared.outcome.Outcome.{Outcome}
 use Rattle.copland_cli.specs.declared.outcome.Report.{Report}
 use Rattle.copland_cli.specs.declared.outcome.Outcome.TheVariants.{Refused, Reported}
 use Rattle.copland_cli.specs.declared.status.Status.{Status}
-use Rattle.copland_cli.specs.declared.status.Status.TheVariants.{Good, SomeFailed, ClaimBroken, Rejected, BadWords, ReadFault, TooLong, NotJson, BadJob, RepeatedPlace, RepeatedArtefact, RepeatedReference, BadRoot, RepeatedNonce, BadPhrase, Misplaced, Oversize, NoReference, BadBundle, WriteFault, NoMemory, Unbuilt}
+use Rattle.copland_cli.specs.declared.status.Status.TheVariants.{Good, SomeFailed, ClaimBroken, Denied, Rejected, BadWords, ReadFault, TooLong, NotJson, BadJob, RepeatedPlace, RepeatedArtefact, RepeatedReference, BadRoot, RepeatedNonce, BadPhrase, Misplaced, Oversize, NoReference, BadBundle, WriteFault, NoMemory, Unbuilt}
 
 -- some outcome, decided so and concluded so
 abbrev pub IsAnswer : (Outcome → Type 0) → Port → Status → Type 0
@@ -49,6 +49,7 @@ abbrev pub HasCause : (Outcome → Type 0) → Port → Status → Type 0
 HasCause Decided sink Good = ReportsWith Decided sink endings.Good
 HasCause Decided sink SomeFailed = ReportsWith Decided sink endings.SomeFailed
 HasCause Decided sink ClaimBroken = ReportsWith Decided sink endings.ClaimBroken
+HasCause Decided sink Denied = ReportsWith Decided sink endings.Denied
 HasCause Decided sink Rejected = ReportsWith Decided sink endings.Rejected
 HasCause Decided sink BadWords = RefusesWith Decided sink refusals.Words
 HasCause Decided sink ReadFault = RefusesWith Decided sink refusals.ReadFault

@@ -13,6 +13,8 @@ pub data Command : Type 0 where
   Walk : ℕ → Command
   -- the text of its claims
   Order : List ℕ → Command
+  -- the text of its policy
+  Choose : List ℕ → Command
   -- the number of workers
   Attest : ℕ → Command
   Appraise : Command
@@ -28,6 +30,7 @@ command_view code.Code = Code
 command_view code.Eval = Eval
 command_view (code.Walk number) = Walk number
 command_view (code.Order text) = Order text.now
+command_view (code.Choose text) = Choose text.now
 command_view (code.Attest workers) = Attest workers
 command_view code.Appraise = Appraise
 command_view (code.Load number) = Load number

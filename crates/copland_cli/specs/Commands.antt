@@ -1,5 +1,5 @@
 -- Which commands run on one thread, which are built, and what each reads.
-use Rattle.copland_cli.specs.Command.{Command, Check, Shape, Events, Code, Eval, Walk, Order, Attest, Appraise, Load}
+use Rattle.copland_cli.specs.Command.{Command, Check, Shape, Events, Code, Eval, Walk, Order, Choose, Attest, Appraise, Load}
 use Rattle.copland_cli.specs.declared.input.BundleNeed.TheVariants.{Optional, Required}
 use Rattle.copland_cli.specs.declared.input.Input.{Input}
 use Rattle.copland_cli.specs.declared.input.Input.TheVariants.{Nothing, Job}
@@ -13,6 +13,7 @@ IsPlain Code = Unit {0}
 IsPlain Eval = Unit {0}
 IsPlain (Walk number) = Unit {0}
 IsPlain (Order text) = Unit {0}
+IsPlain (Choose text) = Unit {0}
 IsPlain (Attest workers) = ⊥
 IsPlain Appraise = Unit {0}
 IsPlain (Load number) = Unit {0}
@@ -26,6 +27,7 @@ IsBuilt Code = Unit {0}
 IsBuilt Eval = Unit {0}
 IsBuilt (Walk number) = Unit {0}
 IsBuilt (Order text) = Unit {0}
+IsBuilt (Choose text) = Unit {0}
 IsBuilt (Attest workers) = ⊥
 IsBuilt Appraise = ⊥
 IsBuilt (Load number) = ⊥
@@ -39,6 +41,7 @@ input_of Code = Job Optional
 input_of Eval = Job Optional
 input_of (Walk number) = Job Optional
 input_of (Order text) = Job Optional
+input_of (Choose text) = Job Optional
 input_of (Attest workers) = Job Optional
 input_of Appraise = Job Required
 input_of (Load number) = Nothing

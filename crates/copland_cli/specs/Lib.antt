@@ -7,6 +7,7 @@ pub mod Input
 pub mod Recorded
 pub mod Reported
 pub mod Ordered
+pub mod Chosen
 pub mod Meaning
 pub mod Digests
 pub mod Outcome

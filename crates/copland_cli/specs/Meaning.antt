@@ -7,11 +7,12 @@ use Rattle.job_reader.specs.Finding.{JobView}
 use Rattle.report_text.specs.Records.{values_text}
 use Rattle.report_text.specs.declared.refusal.Refusal.{Refusal}
 use Rattle.report_text.specs.declared.refusal.Refusal.TheVariants.{Words, Unbuilt, ReadFault, TooLong, Job, NoReference, BadBundle, BadShape, NoMemory}
+use Rattle.copland_cli.specs.Chosen.{IsOfChoice}
 use Rattle.copland_cli.specs.Ordered.{IsOfClaims}
 use Rattle.copland_cli.specs.Reported.{Failing, Giving, Starving, IsOfRecords, IsOfWalk, SaysOfEach, aspect_text}
 use Rattle.copland_cli.specs.declared.ending.Ending.{Ending}
 use Rattle.copland_cli.specs.declared.session.Aspect.TheVariants as aspects
-use Rattle.copland_cli.specs.Command.{Command, Check, Shape, Events, Code, Eval, Walk, Order, Attest, Appraise, Load}
+use Rattle.copland_cli.specs.Command.{Command, Check, Shape, Events, Code, Eval, Walk, Order, Choose, Attest, Appraise, Load}
 
 -- a command refuses an accepted job for this
 abbrev pub RefusesJob : Giving → Failing → Command → JobView → Refusal → Type 0
@@ -22,6 +23,7 @@ RefusesJob Gives Fails Code job why = ⊥
 RefusesJob Gives Fails Eval job why = ⊥
 RefusesJob Gives Fails (Walk number) job why = ⊥
 RefusesJob Gives Fails (Order text) job why = ⊥
+RefusesJob Gives Fails (Choose text) job why = ⊥
 RefusesJob Gives Fails (Attest workers) job why = ⊥
 RefusesJob Gives Fails Appraise job why = ⊥
 RefusesJob Gives Fails (Load number) job why = ⊥
@@ -45,6 +47,7 @@ IsReport Gives Fails Starves Code job text ending = SaysOfEach (aspect_text aspe
 IsReport Gives Fails Starves Eval job text ending = IsOfRecordsIn Gives Fails job values_text text ending
 IsReport Gives Fails Starves (Walk number) job text ending = IsOfWalkIn Gives Fails Starves job number text ending
 IsReport Gives Fails Starves (Order claims) job text ending = IsOfClaims claims job.sessions text ending
+IsReport Gives Fails Starves (Choose policy) job text ending = IsOfChoice policy job.sessions text ending
 IsReport Gives Fails Starves (Attest workers) job text ending = ⊥
 IsReport Gives Fails Starves Appraise job text ending = ⊥
 IsReport Gives Fails Starves (Load number) job text ending = ⊥

@@ -7,13 +7,14 @@ use Rattle.report_text.specs.declared.refusal.Refusal.TheVariants as refusals
 use Rattle.copland_cli.specs.declared.ending.Ending.{Ending}
 use Rattle.copland_cli.specs.declared.ending.Ending.TheVariants as endings
 use Rattle.copland_cli.specs.declared.status.Status.{Status}
-use Rattle.copland_cli.specs.declared.status.Status.TheVariants.{Good, SomeFailed, ClaimBroken, Rejected, BadWords, ReadFault, TooLong, NotJson, BadJob, RepeatedPlace, RepeatedArtefact, RepeatedReference, BadRoot, RepeatedNonce, BadPhrase, Misplaced, Oversize, NoReference, BadBundle, WriteFault, NoMemory, Unbuilt}
+use Rattle.copland_cli.specs.declared.status.Status.TheVariants.{Good, SomeFailed, ClaimBroken, Denied, Rejected, BadWords, ReadFault, TooLong, NotJson, BadJob, RepeatedPlace, RepeatedArtefact, RepeatedReference, BadRoot, RepeatedNonce, BadPhrase, Misplaced, Oversize, NoReference, BadBundle, WriteFault, NoMemory, Unbuilt}
 
 -- the exit status of each answer
 abbrev pub code_of : Status → ℕ
 code_of Good = 0
 code_of SomeFailed = 1
 code_of ClaimBroken = 1
+code_of Denied = 1
 code_of Rejected = 1
 code_of BadWords = 2
 code_of ReadFault = 3
@@ -65,4 +66,5 @@ abbrev pub ending_status : Ending → Status
 ending_status endings.Good = Good
 ending_status endings.SomeFailed = SomeFailed
 ending_status endings.ClaimBroken = ClaimBroken
+ending_status endings.Denied = Denied
 ending_status endings.Rejected = Rejected

@@ -1,7 +1,8 @@
 -- The words of the program's commands.
 use Rattle.std.specs.Prelude.{◌≡◌, ◌^◌, ◌<◌, ◌≤◌, ℕ, List, [], ◌∷◌, codes, decimal, map, String, string_bytes}
 use Rattle.order_policy.specs.Policy.{IsPolicyText}
-use Rattle.copland_cli.specs.Command.{Command, Check, Shape, Events, Code, Eval, Walk, Order, Attest, Appraise, Load}
+use Rattle.release_policy.specs.PolicyText.{HasPolicy}
+use Rattle.copland_cli.specs.Command.{Command, Check, Shape, Events, Code, Eval, Walk, Order, Choose, Attest, Appraise, Load}
 
 -- words as texts
 abbrev pub texts : {A : Type 0} → List (String A) → List (List ℕ)
@@ -17,6 +18,7 @@ Spells words Code = words ≡ codes "code" ∷ []
 Spells words Eval = words ≡ codes "eval" ∷ []
 Spells words (Walk number) = (words ≡ codes "walk" ∷ decimal number ∷ []) × (number < 2 ^ 32)
 Spells words (Order text) = (words ≡ codes "order" ∷ text ∷ []) × IsPolicyText text
+Spells words (Choose text) = (words ≡ codes "choose" ∷ text ∷ []) × HasPolicy text
 Spells words (Attest workers) =
     (words ≡ codes "attest" ∷ codes "--workers" ∷ decimal workers ∷ []) × (1 ≤ workers) × (workers ≤ 16)
 Spells words Appraise = words ≡ codes "appraise" ∷ []

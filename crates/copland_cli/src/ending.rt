@@ -1,4 +1,5 @@
 ghost use Rattle.std.specs.Prelude.{◌≡◌};
+ghost use Rattle.copland_cli.specs.Chosen.{ending_of_choice};
 ghost use Rattle.copland_cli.specs.Ordered.{ending_of_claims};
 ghost use Rattle.copland_cli.specs.Reported.{ending_of};
 ghost use Rattle.copland_cli.specs.Status.{ending_status};
@@ -13,6 +14,8 @@ pub enum Ending {
     SomeFailed,
     /// A claim in it is broken.
     ClaimBroken,
+    /// No session is chosen.
+    Denied,
     /// Its verdicts aren't all good.
     Rejected,
 }
@@ -40,6 +43,16 @@ impl Ending {
         }
     }
 
+    /// The ending of a report on a choice, by the session that is chosen.
+    pub fn of_choice(chosen: Option<u32>) -> Ending
+        ensures { result ≡ ending_of_choice chosen }
+    {
+        match chosen {
+            Some(_) => Ending::Good,
+            None => Ending::Denied,
+        }
+    }
+
     /// The status of a run that ends so.
     pub fn status(self) -> Status
         ensures { result ≡ ending_status self }
@@ -48,6 +61,7 @@ impl Ending {
             Ending::Good => Status::Good,
             Ending::SomeFailed => Status::SomeFailed,
             Ending::ClaimBroken => Status::ClaimBroken,
+            Ending::Denied => Status::Denied,
             Ending::Rejected => Status::Rejected,
         }
     }

@@ -15,6 +15,7 @@ use bench_trait::Bench;
 use job_reader::one_finding;
 use order_policy::{judged_law, policy_law};
 use plain_eval::digests_make_one_record;
+use release_policy::reading_law;
 use session_walk::digests_make_one_walk;
 
 /// A command that is built has at most one refusal of an accepted job after the job's own, and never
@@ -41,6 +42,7 @@ pub fn reports_follow_from_bytes(_bytes: &[u8])
     digests_make_one_walk();
     policy_law();
     judged_law();
+    reading_law();
 }
 
 /// Over `DigestBench`, a session that is evaluated or walked is done exactly where the job has each

@@ -5,6 +5,9 @@
 //! the status.
 #![tactic(auto)]
 
+mod choose;
+#[cfg(test)]
+mod choose_tests;
 mod ending;
 mod input;
 #[cfg(test)]

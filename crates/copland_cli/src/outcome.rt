@@ -1,6 +1,7 @@
 ghost use Rattle.std.specs.Prelude.{◌≤◌, ◌↔◌, IsTrue, IfOk, length};
 ghost use Rattle.job_reader.specs.Accepted.{HasCheckedSessions, job_view};
 ghost use Rattle.report_text.specs.Records.{values_text};
+ghost use Rattle.copland_cli.specs.Chosen.{IsOfChoice};
 ghost use Rattle.copland_cli.specs.Command.{command_view};
 ghost use Rattle.copland_cli.specs.Commands.{IsBuilt, IsPlain};
 ghost use Rattle.copland_cli.specs.Meaning.{IsOfRecordsIn, IsOfWalkIn, IsReport};
@@ -10,6 +11,7 @@ ghost use Rattle.copland_cli.specs.Port.{port};
 ghost use Rattle.copland_cli.specs.Reported.{SaysOfEach, aspect_text};
 ghost use Rattle.copland_cli.specs.Words.{texts};
 
+use crate::choose::{choice_text, choose_among};
 use crate::ending::Ending;
 use crate::input::{Input, read_job};
 use crate::order::judge_each;
@@ -20,6 +22,7 @@ use byte_ports::{Bytes, Source};
 use job_reader::Job;
 use order_policy::OrderPolicy;
 use phrase_tree::NoMemory;
+use release_policy::ReleasePolicy;
 use report_text::{Refusal, records_text, values_text};
 use std::alloc::Global;
 
@@ -65,7 +68,7 @@ fn is_built(command: Command<'_>) -> bool
 {
     match command {
         Command::Check | Command::Shape | Command::Events | Command::Code => true,
-        Command::Eval | Command::Walk(_) | Command::Order(_) => true,
+        Command::Eval | Command::Walk(_) | Command::Order(_) | Command::Choose(_) => true,
         Command::Attest(_) | Command::Appraise | Command::Load(_) => false,
     }
 }
@@ -124,6 +127,7 @@ fn report_on<B: Bench>(
         Command::Eval => evaluate_each(alloc, job, bench),
         Command::Walk(number) => walk_each(alloc, job, bench, number),
         Command::Order(text) => judge_claims(alloc, job, text),
+        Command::Choose(text) => choose_session(alloc, job, text),
         Command::Attest(_) | Command::Appraise | Command::Load(_) => unreachable!(),
     }
 }
@@ -181,5 +185,22 @@ fn judge_claims(alloc: Global, job: &Job, text: &str) -> Result<Report, NoMemory
     Ok(Report {
         text: claimed.text,
         ending: Ending::of_claims(claimed.broken),
+    })
+}
+
+/// Chooses a session by the release policy that a text spells.
+fn choose_session(alloc: Global, job: &Job, text: &str) -> Result<Report, NoMemory>
+    requires { length job.now.sessions.items ≤ 256 }
+    ensures { IfOk result (λ report. IsOfChoice text.now (job_view job.now).sessions report.text report.ending) }
+{
+    // The words of the command spell a policy, so only memory can be wanting here.
+    let Ok(policy) = ReleasePolicy::read(alloc, text) else {
+        return Err(NoMemory);
+    };
+    let choice = choose_among(alloc, &policy, job)?;
+    let written = choice_text(alloc, job, &choice)?;
+    Ok(Report {
+        text: written,
+        ending: Ending::of_choice(choice.chosen),
     })
 }

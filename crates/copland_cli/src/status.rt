@@ -13,6 +13,8 @@ pub enum Status {
     SomeFailed,
     /// The report was written whole, and a claim in it is broken.
     ClaimBroken,
+    /// The report was written whole, and no session is chosen.
+    Denied,
     /// The report was written whole, and its verdicts aren't all good.
     Rejected,
     /// The words are not a command.
@@ -55,7 +57,7 @@ impl Status {
     {
         match self {
             Status::Good => 0,
-            Status::SomeFailed | Status::ClaimBroken | Status::Rejected => 1,
+            Status::SomeFailed | Status::ClaimBroken | Status::Denied | Status::Rejected => 1,
             Status::BadWords => 2,
             Status::ReadFault => 3,
             Status::TooLong => 4,

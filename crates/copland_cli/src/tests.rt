@@ -382,6 +382,7 @@ fn each_status_has_its_code(rt: HostRuntime) {
         (Status::Good, 0),
         (Status::SomeFailed, 1),
         (Status::ClaimBroken, 1),
+        (Status::Denied, 1),
         (Status::Rejected, 1),
         (Status::BadWords, 2),
         (Status::ReadFault, 3),

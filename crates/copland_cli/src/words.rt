@@ -1,11 +1,13 @@
 ghost use Rattle.std.specs.Prelude.{◌≡◌, ◌↔◌, ◌^◌, ◌<◌, ◌≤◌, ℕ, IsTrue, MatchOption, codes, decimal, [], ◌∷◌};
 ghost use Rattle.order_policy.specs.Policy.{IsPolicyText};
+ghost use Rattle.release_policy.specs.PolicyText.{HasPolicy};
 ghost use Rattle.copland_cli.specs.Command.{command_view};
 ghost use Rattle.copland_cli.specs.Words.{IsNoNumber, IsNoCommand, Spells, texts};
 
 use crate::input::{BundleNeed, Input};
 use itoa::Buffer;
 use order_policy::bad_claim;
+use release_policy::{bad_part, reading_law};
 
 /// A command of the program.
 #[derive(Clone, Copy, Debug)]
@@ -19,6 +21,8 @@ pub enum Command<'w> {
     Walk(u32),
     /// Judges the claims of this policy text.
     Order(&'w str),
+    /// Chooses by the release policy of this text.
+    Choose(&'w str),
     /// A run by this many workers, from 1 to 16.
     Attest(u32),
     Appraise,
@@ -37,7 +41,7 @@ impl Command<'_> {
             Command::Check | Command::Shape | Command::Events | Command::Code | Command::Eval => {
                 Input::Job(BundleNeed::Optional)
             }
-            Command::Walk(_) | Command::Order(_) | Command::Attest(_) => {
+            Command::Walk(_) | Command::Order(_) | Command::Choose(_) | Command::Attest(_) => {
                 Input::Job(BundleNeed::Optional)
             }
             Command::Appraise => Input::Job(BundleNeed::Required),
@@ -96,6 +100,12 @@ fn paired<'w>(word: &str, second: &'w str) -> Option<Command<'w>>
         }
         return None;
     }
+    if word == "choose" {
+        if is_release(second) {
+            return Some(Command::Choose(second));
+        }
+        return None;
+    }
     let Some(number) = number_of(second) else {
         return None;
     };
@@ -113,6 +123,14 @@ fn is_policy(text: &str) -> bool
     ensures { IsTrue result ↔ IsPolicyText text.now }
 {
     bad_claim(text).is_none()
+}
+
+/// Whether a text is that of a release policy.
+fn is_release(text: &str) -> bool
+    ensures { IsTrue result ↔ HasPolicy text.now }
+{
+    reading_law();
+    bad_part(text).is_none()
 }
 
 fn flagged(word: &str, flag: &str, number: &str) -> Option<Command<'static>>
