@@ -1,0 +1,2 @@
+mod StayFacts
+mod EndFacts
