@@ -1,2 +1,3 @@
 mod StayFacts
 mod EndFacts
+mod ReadyFacts

@@ -64,6 +64,11 @@ wider low from to high before after under over stays =
       above = λ at more. stays.above at (omega (arith, over, more));
     }
 
+-- one call of the desk more at the same session
+pub still_but : {O : Type 0} (index held : ℕ) (Changes : View O → View O → Type 0) (first second third : Known O) → held ≡ index → StaysBut index first second → openings_of third.views ≡ openings_of second.views → ChangesAt held Changes second third → StaysBut index first third
+still_but index held Changes first second third same stays openings changes =
+    and_still index (index + 1) first second third stays (subst (λ k. StaysBut k second third) same (but_one held Changes second third openings changes))
+
 -- a pass still fits the bench and the artefacts
 pub fit_still : {B : Type 0} (bench : B) (artefacts : List Artefact) (desk : List TableId) (before after : Known (Opened B)) → IsFit bench artefacts desk before → IsPassOf desk after → openings_of after.views ≡ openings_of before.views → IsFit bench artefacts desk after
 fit_still bench artefacts desk before after fit made same =

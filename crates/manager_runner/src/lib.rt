@@ -7,8 +7,12 @@
 
 mod bell;
 mod fan;
+mod laws;
 mod rounds;
+#[cfg(test)]
+mod tests;
 mod workers;
 
+pub use laws::workers_law;
 pub use rounds::drive;
 pub use workers::run;

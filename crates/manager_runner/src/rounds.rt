@@ -14,7 +14,7 @@ use std::sync::Wait;
 use std::thread;
 use std::thread::Threads;
 
-/// What a visit of sessions came to.
+/// What a visit of sessions, or a turn of one, came to.
 #[derive(Clone, Copy, Drop)]
 struct Visited {
     /// They have ended, all of them.
@@ -203,24 +203,65 @@ fn visit<'a, R: Wait, B: Bench, W: Rest>(
 {
     let mut moved = false;
     for _ in rt.forever() {
-        match desk.turn(session, pass) {
-            Turned::Moved => {}
-            Turned::ToMeasure(ask, hand) => {
-                measure(rt, desk, artefacts, bench, idle, pass, ask, hand);
-            }
-            Turned::Waiting => return Visited {
-                ended: false,
+        let here = step(rt, desk, artefacts, bench, idle, session, pass);
+        if !here.moved {
+            return Visited {
+                ended: here.ended,
                 moved,
-            },
-            Turned::Finished => return Visited { ended: true, moved },
-            Turned::Busy => return Visited {
-                ended: false,
-                moved,
-            },
+            };
         }
         moved = true;
     }
     unreachable!()
+}
+
+/// Takes one turn at a session, and measures where that asks.
+fn step<'a, R: Wait, B: Bench, W: Rest>(
+    rt: &R,
+    desk: &Desk<'a, B>,
+    artefacts: &ArtefactBook,
+    bench: &B,
+    idle: &W,
+    session: u32,
+    pass: &mut Pass<'a, B>,
+) -> Visited
+    requires range { session < length desk.now }
+    requires fit { IsFit bench.now artefacts.now desk.now pass.old }
+    ensures fit { IsFit bench.now artefacts.now desk.now pass.new }
+    ensures stays { StaysBut session pass.old pass.new }
+    ensures ended { result.ended ≡ true → IsAt
+        session
+        (HasEnded
+        (λ opening ask answer. B.gives opening.bench.now opening.artefacts.now ask answer)
+        (λ opening ask fault. B.fails opening.bench.now opening.artefacts.now ask fault)
+        (λ opening ask. B.starves opening.bench.now opening.artefacts.now ask))
+        pass.new.views }
+{
+    match desk.turn(session, pass) {
+        Turned::Moved => Visited {
+            ended: false,
+            moved: true,
+        },
+        Turned::ToMeasure(ask, hand) => {
+            measure(rt, desk, artefacts, bench, idle, pass, ask, hand);
+            Visited {
+                ended: false,
+                moved: true,
+            }
+        }
+        Turned::Waiting => Visited {
+            ended: false,
+            moved: false,
+        },
+        Turned::Finished => Visited {
+            ended: true,
+            moved: false,
+        },
+        Turned::Busy => Visited {
+            ended: false,
+            moved: false,
+        },
+    }
 }
 
 /// Measures what a turn asked, while the session's turn is free, and records the result by its hand.
