@@ -29,7 +29,7 @@ module _ {B : Type 0} (Gives : Opened B → Question → List ℕ → Type 0) (F
   found_of : (Is : Session → Standing → Type 0) (Tells : List Entry → Seen (Opened B) → Type 0) → ((made : List Entry) (taken : Seen (Opened B)) → Tells made taken → Finds Is made taken) → (number : ℕ) (old new : View (Opened B)) (takes : Takes number (IsLegalSeen Gives Fails Starves) Tells old new) → Is (session_in takes.opening) takes.holds.0
   found_of Is Tells tells number old new takes =
       let found = tells takes.made (as_seen takes.opening (old.seen ++ takes.others)) takes.tells in
-      let seen : new.seen ≡ old.seen ++ takes.others = takes.seen ∙ ap (λ made. old.seen ++ takes.others ++ made) found.idle ∙ ap (λ l. old.seen ++ l) (append-nil takes.others) in
+      let seen : new.seen ≡ old.seen ++ takes.others = takes.seen ∙ ap (λ made. old.seen ++ takes.others ++ made) found.idle ∙ append-nil (old.seen ++ takes.others) in
       let stands : StandsAt (as_seen takes.opening new.seen) found.standing = subst (λ l. StandsAt (as_seen takes.opening l) found.standing) (sym seen) found.stands in
       subst (λ standing. Is (session_in takes.opening) standing) (some_same found.standing takes.holds.0 (sym stands ∙ takes.holds.1.stands)) found.is
 

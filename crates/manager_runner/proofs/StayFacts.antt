@@ -105,7 +105,7 @@ pushed P (z ∷ zs) y is all (suc k) x at = pushed (λ j w. P (suc j) w) zs y is
 
 length_pushed : {A : Type 0} (xs : List A) (y : A) → length (xs ++ y ∷ []) ≡ length xs + 1
 length_pushed [] y = refl
-length_pushed (x ∷ xs) y = ap suc (length_pushed xs y)
+length_pushed (x ∷ xs) y = omega (arith, length_pushed xs y)
 
 pub no_records : {O : Type 0} (Has : Record → View O → Type 0) (records : List Record) (views : List (View O)) → records ≡ [] → AreRecords 0 Has records views
 no_records {O} Has records views none =

@@ -22,7 +22,6 @@ pub(crate) trait Work<D, B, P> {
         artefacts: &ArtefactBook,
         bench: &B,
         bell: &Bell,
-        number: usize,
         pass: &mut P,
     )
         requires { ready desk.now bench.now artefacts.now pass.old };
@@ -46,6 +45,6 @@ pub(crate) fn fan_out<R: Threads + Wait + Sync, W: Work<D, B, P> + Sync, D: Sync
         rt,
         passes,
         count,
-        &|number, pass| { work.work(rt, desk, artefacts, bench, &bell, number, pass) },
+        &|_, pass| work.work(rt, desk, artefacts, bench, &bell, pass),
     );
 }

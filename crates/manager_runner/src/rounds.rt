@@ -64,18 +64,17 @@ pub fn drive<'a, R: Threads + Wait + Sync, B: Bench + Sync>(
         (length desk.now)
         pass.new.views }
 {
-    drive_from(rt, desk, artefacts, bench, &Alone, 0, pass);
+    drive_from(rt, desk, artefacts, bench, &Alone, pass);
 }
 
-/// The same, where the first round begins at the session of an index, counted round, and a worker rests so
-/// where a round brought nothing.
+/// The same, where a worker rests so if a round brought nothing. Each round begins at the session of the
+/// pass's number, counted round, so that workers begin at different ones.
 pub(crate) fn drive_from<'a, R: Wait, B: Bench, W: Rest>(
     rt: &R,
     desk: &Desk<'a, B>,
     artefacts: &ArtefactBook,
     bench: &B,
     idle: &W,
-    first: usize,
     pass: &mut Pass<'a, B>,
 )
     requires fit { IsFit bench.now artefacts.now desk.now pass.old }
@@ -90,7 +89,7 @@ pub(crate) fn drive_from<'a, R: Wait, B: Bench, W: Rest>(
         (length desk.now)
         pass.new.views }
 {
-    let first = first_of(desk.session_count(), first);
+    let first = first_of(desk.session_count(), pass.number());
     for _ in rt.forever() {
         let heard = idle.heard(rt);
         let visited = round(rt, desk, artefacts, bench, idle, first, pass);
@@ -104,7 +103,7 @@ pub(crate) fn drive_from<'a, R: Wait, B: Bench, W: Rest>(
     unreachable!()
 }
 
-/// The session at which a worker of this number begins: one below their count, if there are any.
+/// The session at which a pass of this number begins: one below their count, if there are any.
 fn first_of(count: u32, number: usize) -> u32
     ensures { result ≤ count }
 {

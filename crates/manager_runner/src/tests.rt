@@ -130,11 +130,7 @@ fn in_parallel(alloc: Global, left: Phrase, right: Phrase) -> Result<Phrase, NoM
         left: true,
         right: false,
     };
-    Ok(Phrase::Par(
-        split,
-        Box::new(alloc, left)?,
-        Box::new(alloc, right)?,
-    ))
+    Ok(Phrase::Par(split, Box::new(alloc, left)?, Box::new(alloc, right)?))
 }
 
 /// `USM a +~- USM b`.
@@ -275,7 +271,14 @@ fn two_workers_measure_at_once(rt: HostRuntime) -> Result<(), Fail> {
     let arms = records(&rt, alloc, two_arms(&rt, alloc)?, &Meeting::of(1, 2), 1, 2)?;
     assert_eq!(rt; arms.len(), 1);
     assert!(rt; is_done(&arms[0], &[&[0, 1, 2, 3], &[0, 2, 1, 3]]));
-    let longer = records(&rt, alloc, longer_arm(&rt, alloc)?, &Meeting::of(1, 3), 1, 2)?;
+    let longer = records(
+        &rt,
+        alloc,
+        longer_arm(&rt, alloc)?,
+        &Meeting::of(1, 3),
+        1,
+        2,
+    )?;
     assert_eq!(rt; longer.len(), 1);
     assert!(rt; is_done(&longer[0], &[&[0, 2, 1, 3, 4], &[0, 2, 3, 1, 4]]));
     Ok(())

@@ -33,10 +33,9 @@ impl<'a, B: Bench> Work<Desk<'a, B>, B, Pass<'a, B>> for Driving {
         artefacts: &ArtefactBook,
         bench: &B,
         bell: &Bell,
-        number: usize,
         pass: &mut Pass<'a, B>,
     ) {
-        drive_from(rt, desk, artefacts, bench, bell, number, pass);
+        drive_from(rt, desk, artefacts, bench, bell, pass);
     }
 }
 
@@ -67,7 +66,9 @@ pub fn run<'a, R: Threads + Wait + Sync, B: Bench + Sync>(
         records.items
         closer.new.views) }
 {
-    fan_out(rt, &Driving, desk, artefacts, bench, workers);
+    fan_out::<R, Driving, Desk<'a, B>, B, Pass<'a, B>>(
+        rt, &Driving, desk, artefacts, bench, workers,
+    );
     drive(rt, desk, artefacts, bench, closer);
     records(rt, alloc, desk, artefacts, bench, closer)
 }

@@ -14,6 +14,3 @@ loop-preserved g c =
       fit = c.round-visited.ensures.fit;
       stays = and_still 0 (length c.args.desk.now) c.args.pass.now c.loop.pass c.round-visited.new.pass c.loop.invariant.stays c.round-visited.ensures.stays;
     }
-
-pub returns-clause-stays : goal.returns-clause-stays
-returns-clause-stays g c = and_still 0 (length c.args.desk.now) c.args.pass.now c.loop.pass c.round-visited.new.pass c.loop.invariant.stays c.round-visited.ensures.stays

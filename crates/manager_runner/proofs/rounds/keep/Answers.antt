@@ -1,4 +1,4 @@
-use Rattle.std.proofs.Common.{refl, ◌∙◌, ap}
+use Rattle.std.proofs.Common.{◌+◌, refl, ◌∙◌, ap}
 use Rattle.manager_runner.proofs.StayFacts.{as_it_is, still_but}
 use Rattle.manager_runner.proofs.rounds.keep.Goals as goal
 

@@ -1,4 +1,4 @@
-use Rattle.std.proofs.Common.{subst}
+use Rattle.std.proofs.Common.{◌+◌, subst}
 use Rattle.manager_runner.specs.Staying.{StaysBut}
 use Rattle.manager_runner.proofs.StayFacts.{but_one, and_still, fit_still}
 use Rattle.manager_runner.proofs.EndFacts.{ended_here}

@@ -1,3 +1,4 @@
+use Rattle.std.proofs.Common.{◌+◌}
 use Rattle.manager_runner.proofs.StayFacts.{as_it_is, and_still}
 use Rattle.manager_runner.proofs.rounds.visit.Goals as goal
 
@@ -13,6 +14,3 @@ loop-preserved g c =
       fit = c.step-here.ensures.fit;
       stays = and_still c.args.session (c.args.session + 1) c.args.pass.now c.loop.pass c.step-here.new.pass c.loop.invariant.stays c.step-here.ensures.stays;
     }
-
-pub returns-clause-stays : goal.returns-clause-stays
-returns-clause-stays g c = and_still c.args.session (c.args.session + 1) c.args.pass.now c.loop.pass c.step-here.new.pass c.loop.invariant.stays c.step-here.ensures.stays

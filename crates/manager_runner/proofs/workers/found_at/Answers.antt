@@ -1,4 +1,4 @@
-use Rattle.std.proofs.Common.{refl}
+use Rattle.std.proofs.Common.{◌+◌, refl}
 use Rattle.manager_runner.proofs.StayFacts.{as_it_is, still_but, fit_still}
 use Rattle.manager_runner.proofs.EndFacts.{record_here}
 use Rattle.manager_runner.proofs.workers.found_at.Goals as goal
