@@ -1,5 +1,5 @@
 -- The passes of a desk as workers and a closer.
-use Rattle.std.proofs.Common.{◌≡◌, ℕ, zero, suc, ◌+◌, ◌<◌, List, [], ◌∷◌, ◌++◌, length, get_or, refl, sym, ◌∙◌, subst, arith}
+use Rattle.std.proofs.Common.{◌≡◌, ℕ, zero, suc, ◌+◌, ◌<◌, List, [], ◌∷◌, ◌++◌, length, get_or, refl, sym, ap, ◌∙◌, subst, arith}
 use Rattle.std.specs.Prelude.{Some, All, slice_get}
 use Rattle.std.proofs.lemmas.Option.{slice_get-get_or}
 use Rattle.atomic_table.specs.Seated.{TableId}
@@ -24,6 +24,9 @@ last_one (z ∷ zs) y = last_one zs y
 one_longer : {A : Type 0} (xs : List A) (y : A) → length xs + 1 ≡ length (xs ++ y ∷ [])
 one_longer [] y = refl
 one_longer (z ∷ zs) y = omega (arith, one_longer zs y)
+
+pub count_more : {A : Type 0} (xs more : List A) (y : A) (n : ℕ) → length xs ≡ n → more ≡ xs ++ y ∷ [] → length more ≡ n + 1
+count_more xs more y n count is = ap length is ∙ sym (one_longer xs y) ∙ ap (λ k. k + 1) count
 
 -- one session more, just opened over the same bench and artefacts
 just_appended : {O : Type 0} (sessions : List (Seen O)) (session : Seen O) → AreJustOpened sessions → session.items ≡ [] → AreJustOpened (sessions ++ session ∷ [])
