@@ -4,7 +4,7 @@
 
 use bench_trait::DigestBench;
 use byte_ports::{StdSink, StdSource};
-use copland_cli::{plain_top, refuse};
+use copland_cli::{refuse, top};
 use report_text::Refusal;
 use std::env::Env;
 use std::io::ErrorKind;
@@ -25,7 +25,8 @@ fn main(rt: HostRuntime) -> ExitCode {
     let mut source = StdSource::over(rt.reader());
     let mut sink = StdSink::over(rt.stdout());
     let status = match words_of(&rt) {
-        Ok(words) => plain_top(
+        Ok(words) => top(
+            &rt,
             alloc,
             words.as_slice(),
             &mut source,
@@ -35,7 +36,7 @@ fn main(rt: HostRuntime) -> ExitCode {
         Err(error) => match error.kind() {
             ErrorKind::OutOfMemory => refuse(&mut sink, &Refusal::NoMemory),
             // Words that aren't UTF-8 are wrong words, as none at all are.
-            _ => plain_top(alloc, &[], &mut source, &mut sink, &DigestBench),
+            _ => top(&rt, alloc, &[], &mut source, &mut sink, &DigestBench),
         },
     };
     ExitCode::from(status.code())

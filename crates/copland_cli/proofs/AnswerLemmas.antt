@@ -125,7 +125,7 @@ bad_words Known Gives Fails Starves words source sink outcome status h c = (
 
 -- ---- the run of the command that the words spell
 
-run_of : (Known : Command → Type 0) (Gives : Giving) (Fails : Failing) (Starves : Starving) (words : List (List ℕ)) (source : Port) (outcome : Outcome) (command : Command) → IsDecided Known Gives Fails Starves words source outcome → Spells words command → Known command → IsBuilt command → IsRun Gives Fails Starves command source outcome
+pub run_of : (Known : Command → Type 0) (Gives : Giving) (Fails : Failing) (Starves : Starving) (words : List (List ℕ)) (source : Port) (outcome : Outcome) (command : Command) → IsDecided Known Gives Fails Starves words source outcome → Spells words command → Known command → IsBuilt command → IsRun Gives Fails Starves command source outcome
 run_of Known Gives Fails Starves words source outcome command (inl run) spelled known built =
     subst (λ (one : Command). IsRun Gives Fails Starves one source outcome) (one_command words run.0 command run.1 spelled) run.4
 run_of Known Gives Fails Starves words source outcome command (inr (inl bad)) spelled known built = absurd (bad.0 command spelled known)
@@ -135,7 +135,7 @@ run_of Known Gives Fails Starves words source outcome command (inr (inr unbuilt)
 -- ---- each answer comes exactly where what is given calls for it
 
 -- what was read is what was told
-same_finding : (need : BundleNeed) (source : Port) (bytes : List ℕ) (finding other : Finding) → source.bytes_before ≡ Some bytes → IsFinding bytes (is_required need) finding → IsReadAs need source other → other ≡ finding
+pub same_finding : (need : BundleNeed) (source : Port) (bytes : List ℕ) (finding other : Finding) → source.bytes_before ≡ Some bytes → IsFinding bytes (is_required need) finding → IsReadAs need source other → other ≡ finding
 same_finding need source bytes finding other told is read =
     let same = whole source.bytes_before source.bytes_after bytes read.0 told read.1.given read.1.ended in
     read.2.only finding (subst (λ (b : List ℕ). IsFinding b (is_required need) finding) (sym same) is)

@@ -53,14 +53,14 @@ module _ (artefacts : List Artefact) where
       not_none _ (artefact_bytes artefacts (artefact_place ask.place ask.kind) ask.asp.name) there lacks.lacking
 
   -- of a right record
-  done_where : (session : Session) (keys : List (List ℕ × List ℕ)) (found : Record) → IsRightRecord (DigestGives artefacts) (DigestFails artefacts) session keys found → SaysDone found ↔ HaveArtefacts artefacts (session_questions session)
+  pub done_where : (session : Session) (keys : List (List ℕ × List ℕ)) (found : Record) → IsRightRecord (DigestGives artefacts) (DigestFails artefacts) session keys found → SaysDone found ↔ HaveArtefacts artefacts (session_questions session)
   done_where session keys (done trace answers bytes) right =
       (λ says. have_artefacts (session_questions session) answers right.answered, λ have. tt)
   done_where session keys (failed event fault trace) right =
       (λ says. absurd says, λ have. lacks_nothing right.asked.0 fault (artefact_among (session_questions session) event right.asked.0 have right.asked.1) right.asked.2)
 
   -- of those of sessions
-  each_done_where : (keys : List (List ℕ × List ℕ)) (sessions : List Session) (records : List Record) → AreRightRecords (DigestGives artefacts) (DigestFails artefacts) keys sessions records → AreDoneWhereThere artefacts sessions records
+  pub each_done_where : (keys : List (List ℕ × List ℕ)) (sessions : List Session) (records : List Record) → AreRightRecords (DigestGives artefacts) (DigestFails artefacts) keys sessions records → AreDoneWhereThere artefacts sessions records
   each_done_where keys [] [] h = tt
   each_done_where keys [] (found ∷ records) h = absurd h
   each_done_where keys (session ∷ sessions) [] h = absurd h

@@ -21,6 +21,7 @@ use Rattle.release_policy.specs.Choices.{Chooses}
 use Rattle.release_policy.specs.PolicyText.{IsPolicyText}
 use Rattle.copland_cli.specs.Chosen.{IsOfChoice, choice_text, ending_of_choice}
 use Rattle.copland_cli.specs.Ordered.{AreJudged, IsOfClaims, SaysOfClaims, ending_of_claims, found_text, some_broken}
+use Rattle.copland_cli.specs.Commands.{IsPlain}
 use Rattle.copland_cli.specs.Meaning.{IsOfRecordsIn, IsOfWalkIn, IsReport}
 use Rattle.copland_cli.specs.Reported.{AreRecords, Failing, Giving, Starving, SaysOfEach, aspect_text, ending_of, some_failed}
 use Rattle.copland_cli.specs.declared.ending.Ending.{Ending}
@@ -98,23 +99,23 @@ same_of_choices laws spelled sessions text other ending ended h k =
       h.ended ∙ ap (λ (c : Option ℕ). ending_of_choice c) chosen ∙ sym k.ended,
     )
 
-on_one_job : (Gives : Giving) (Fails : Failing) (Starves : Starving) (law : HasOneRecord Gives Fails) (walks : HasOneWalk Gives Fails Starves) (laws : AreOne) (command : Command) (job : JobView) (text other : List ℕ) (ending ended : Ending) → IsReport Gives Fails Starves command job text ending → IsReport Gives Fails Starves command job other ended → (text ≡ other) × (ending ≡ ended)
-on_one_job Gives Fails Starves law walks laws Check job text other ending ended h k = same_each (aspect_text aspects.Check) job.sessions text other ending ended h k
-on_one_job Gives Fails Starves law walks laws Shape job text other ending ended h k = same_each (aspect_text aspects.Shape) job.sessions text other ending ended h k
-on_one_job Gives Fails Starves law walks laws Events job text other ending ended h k = same_each (aspect_text aspects.Events) job.sessions text other ending ended h k
-on_one_job Gives Fails Starves law walks laws Code job text other ending ended h k = same_each (aspect_text aspects.Code) job.sessions text other ending ended h k
-on_one_job Gives Fails Starves law walks laws Eval job text other ending ended h k = same_of_records Gives Fails law job values_text text other ending ended h k
-on_one_job Gives Fails Starves law walks laws (Walk number) job text other ending ended h k = same_of_walks Gives Fails Starves walks job number text other ending ended h k
-on_one_job Gives Fails Starves law walks laws (Order claims) job text other ending ended h k = same_of_claims laws claims job.sessions text other ending ended h k
-on_one_job Gives Fails Starves law walks laws (Choose policy) job text other ending ended h k = same_of_choices laws policy job.sessions text other ending ended h k
-on_one_job Gives Fails Starves law walks laws (Attest workers) job text other ending ended h k = absurd h
-on_one_job Gives Fails Starves law walks laws Appraise job text other ending ended h k = absurd h
-on_one_job Gives Fails Starves law walks laws (Load number) job text other ending ended h k = absurd h
+on_one_job : (Gives : Giving) (Fails : Failing) (Starves : Starving) (law : HasOneRecord Gives Fails) (walks : HasOneWalk Gives Fails Starves) (laws : AreOne) (command : Command) (job : JobView) (text other : List ℕ) (ending ended : Ending) → IsPlain command → IsReport Gives Fails Starves command job text ending → IsReport Gives Fails Starves command job other ended → (text ≡ other) × (ending ≡ ended)
+on_one_job Gives Fails Starves law walks laws Check job text other ending ended plain h k = same_each (aspect_text aspects.Check) job.sessions text other ending ended h k
+on_one_job Gives Fails Starves law walks laws Shape job text other ending ended plain h k = same_each (aspect_text aspects.Shape) job.sessions text other ending ended h k
+on_one_job Gives Fails Starves law walks laws Events job text other ending ended plain h k = same_each (aspect_text aspects.Events) job.sessions text other ending ended h k
+on_one_job Gives Fails Starves law walks laws Code job text other ending ended plain h k = same_each (aspect_text aspects.Code) job.sessions text other ending ended h k
+on_one_job Gives Fails Starves law walks laws Eval job text other ending ended plain h k = same_of_records Gives Fails law job values_text text other ending ended h k
+on_one_job Gives Fails Starves law walks laws (Walk number) job text other ending ended plain h k = same_of_walks Gives Fails Starves walks job number text other ending ended h k
+on_one_job Gives Fails Starves law walks laws (Order claims) job text other ending ended plain h k = same_of_claims laws claims job.sessions text other ending ended h k
+on_one_job Gives Fails Starves law walks laws (Choose policy) job text other ending ended plain h k = same_of_choices laws policy job.sessions text other ending ended h k
+on_one_job Gives Fails Starves law walks laws (Attest workers) job text other ending ended plain h k = absurd plain
+on_one_job Gives Fails Starves law walks laws Appraise job text other ending ended plain h k = absurd h
+on_one_job Gives Fails Starves law walks laws (Load number) job text other ending ended plain h k = absurd h
 
 -- two jobs that are one finding are one job
-same_job : (job other : JobView) → accepted job ≡ accepted other → other ≡ job
+pub same_job : (job other : JobView) → accepted job ≡ accepted other → other ≡ job
 same_job job other same = cc
 
-pub on_one_finding : (Gives : Giving) (Fails : Failing) (Starves : Starving) (law : HasOneRecord Gives Fails) (walks : HasOneWalk Gives Fails Starves) (laws : AreOne) (command : Command) (job again : JobView) (text other : List ℕ) (ending ended : Ending) → accepted job ≡ accepted again → IsReport Gives Fails Starves command job text ending → IsReport Gives Fails Starves command again other ended → (text ≡ other) × (ending ≡ ended)
-on_one_finding Gives Fails Starves law walks laws command job again text other ending ended same h k =
-    on_one_job Gives Fails Starves law walks laws command job text other ending ended h (subst (λ (j : JobView). IsReport Gives Fails Starves command j other ended) (same_job job again same) k)
+pub on_one_finding : (Gives : Giving) (Fails : Failing) (Starves : Starving) (law : HasOneRecord Gives Fails) (walks : HasOneWalk Gives Fails Starves) (laws : AreOne) (command : Command) (job again : JobView) (text other : List ℕ) (ending ended : Ending) → IsPlain command → accepted job ≡ accepted again → IsReport Gives Fails Starves command job text ending → IsReport Gives Fails Starves command again other ended → (text ≡ other) × (ending ≡ ended)
+on_one_finding Gives Fails Starves law walks laws command job again text other ending ended plain same h k =
+    on_one_job Gives Fails Starves law walks laws command job text other ending ended plain h (subst (λ (j : JobView). IsReport Gives Fails Starves command j other ended) (same_job job again same) k)

@@ -6,5 +6,8 @@ pub mod RecordLemmas
 pub mod AnswerLemmas
 pub mod OrderLemmas
 pub mod ChoiceLemmas
+pub mod HeadlineLemmas
 pub mod FunctionLemmas
 pub mod DigestLemmas
+pub mod AttestLemmas
+pub mod AlikeLemmas

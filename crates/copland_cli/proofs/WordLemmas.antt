@@ -1,6 +1,6 @@
 -- Words spell one command only.
 use Rattle.std.proofs.Common.{◌≡◌, ◌<◌, ◌^◌, ℕ, List, [], ◌∷◌, refl, sym, ap, ◌∙◌, arith, subst}
-use Rattle.std.specs.Prelude.{codes, decimal, nat_eq, if◌then◌else◌, Option, None, Some}
+use Rattle.std.specs.Prelude.{◌≢◌, codes, decimal, nat_eq, if◌then◌else◌, MatchOption, Option, None, Some}
 use lib.Pointwise.{pointwise}
 use Rattle.std.proofs.lemmas.Fmt.{decimal_injective}
 use Rattle.copland_cli.specs.Command.{Command, Check, Shape, Events, Code, Eval, Walk, Order, Choose, Attest, Appraise, Load}
@@ -181,3 +181,8 @@ one_command words one other h k =
 pub built-unbuilt : (words : List (List ℕ)) (command other : Command) → Spells words command → IsBuilt command → Spells words other → ¬ IsBuilt other → ⊥
 built-unbuilt words command other spelled built again unbuilt =
     unbuilt (subst (λ (c : Command). IsBuilt c) (one_command words command other spelled again) built)
+
+-- the workers of words that spell a command are those of the command
+pub workers_in : (words : List (List ℕ)) (command : Command) (found : Option ℕ) → Spells words command → MatchOption found ((workers : ℕ) → command ≢ Attest workers) (λ workers. command ≡ Attest workers) → MatchOption found ((workers : ℕ) → ¬ Spells words (Attest workers)) (λ workers. Spells words (Attest workers))
+workers_in words command None spelled by = λ workers again. by workers (one_command words command (Attest workers) spelled again)
+workers_in words command (Some workers) spelled by = subst (λ (c : Command). Spells words c) by spelled

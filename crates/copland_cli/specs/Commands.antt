@@ -1,4 +1,4 @@
--- Which commands run on one thread, which are built, and what each reads.
+-- Which commands are known where, which are built, and what each reads.
 use Rattle.copland_cli.specs.Command.{Command, Check, Shape, Events, Code, Eval, Walk, Order, Choose, Attest, Appraise, Load}
 use Rattle.copland_cli.specs.declared.input.BundleNeed.TheVariants.{Optional, Required}
 use Rattle.copland_cli.specs.declared.input.Input.{Input}
@@ -18,6 +18,10 @@ IsPlain (Attest workers) = ⊥
 IsPlain Appraise = Unit {0}
 IsPlain (Load number) = Unit {0}
 
+-- with threads every command runs
+abbrev pub IsAny : Command → Type 0
+IsAny command = Unit {0}
+
 -- the command is built
 abbrev pub IsBuilt : Command → Type 0
 IsBuilt Check = Unit {0}
@@ -28,7 +32,7 @@ IsBuilt Eval = Unit {0}
 IsBuilt (Walk number) = Unit {0}
 IsBuilt (Order text) = Unit {0}
 IsBuilt (Choose text) = Unit {0}
-IsBuilt (Attest workers) = ⊥
+IsBuilt (Attest workers) = Unit {0}
 IsBuilt Appraise = ⊥
 IsBuilt (Load number) = ⊥
 

@@ -8,8 +8,11 @@ pub mod Recorded
 pub mod Reported
 pub mod Ordered
 pub mod Chosen
+pub mod Attested
 pub mod Meaning
 pub mod Digests
+pub mod Alike
 pub mod Outcome
+pub mod Opened
 pub mod Concluded
 pub mod Answer

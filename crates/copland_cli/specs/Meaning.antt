@@ -9,6 +9,7 @@ use Rattle.report_text.specs.declared.refusal.Refusal.{Refusal}
 use Rattle.report_text.specs.declared.refusal.Refusal.TheVariants.{Words, Unbuilt, ReadFault, TooLong, Job, NoReference, BadBundle, BadShape, NoMemory}
 use Rattle.copland_cli.specs.Chosen.{IsOfChoice}
 use Rattle.copland_cli.specs.Ordered.{IsOfClaims}
+use Rattle.copland_cli.specs.Attested.{IsOfAttestations}
 use Rattle.copland_cli.specs.Reported.{Failing, Giving, Starving, IsOfRecords, IsOfWalk, SaysOfEach, aspect_text}
 use Rattle.copland_cli.specs.declared.ending.Ending.{Ending}
 use Rattle.copland_cli.specs.declared.session.Aspect.TheVariants as aspects
@@ -48,7 +49,7 @@ IsReport Gives Fails Starves Eval job text ending = IsOfRecordsIn Gives Fails jo
 IsReport Gives Fails Starves (Walk number) job text ending = IsOfWalkIn Gives Fails Starves job number text ending
 IsReport Gives Fails Starves (Order claims) job text ending = IsOfClaims claims job.sessions text ending
 IsReport Gives Fails Starves (Choose policy) job text ending = IsOfChoice policy job.sessions text ending
-IsReport Gives Fails Starves (Attest workers) job text ending = ⊥
+IsReport Gives Fails Starves (Attest workers) job text ending = IsOfAttestations Gives Fails job text ending
 IsReport Gives Fails Starves Appraise job text ending = ⊥
 IsReport Gives Fails Starves (Load number) job text ending = ⊥
 

@@ -5,10 +5,10 @@ use std::test::Fail;
 // What the program says of two whole jobs. The reports were made by an independent program in another
 // language.
 
-const BANK: &str =
+pub const BANK: &str =
     "{\"places\":[{\"name\":\"bank\",\"key\":\"000102030405060708090a0b0c0d0e0f\",\"asks\":[\"ks\",\"us\"]},{\"name\":\"ks\",\"key\":\"101112131415161718191a1b1c1d1e1f\",\"sees\":[\"us\"],\"offers\":[\"kernel\"]},{\"name\":\"us\",\"key\":\"202122232425262728292a2b2c2d2e2f\",\"offers\":[\"scanner\",\"files\"]}],\"artefacts\":[{\"place\":\"us\",\"name\":\"kernel\",\"bytes\":\"6b31\"},{\"place\":\"us\",\"name\":\"scanner\",\"bytes\":\"7331\"},{\"place\":\"us\",\"name\":\"files\",\"bytes\":\"6631\"}],\"sessions\":[{\"root\":\"bank\",\"nonce\":\"f0f1f2f3f4f5f6f7f8f9fafbfcfdfeff\",\"phrase\":\"@ks [KIM us kernel -> SIG] +<+ @us [USM scanner -> USM files etc -> SIG]\"}]}";
 
-const FOUR_SESSIONS: &str =
+pub const FOUR_SESSIONS: &str =
     "{\"places\":[{\"name\":\"bank\",\"key\":\"000102030405060708090a0b0c0d0e0f\",\"asks\":[\"q\"],\"sees\":[\"q\"],\"offers\":[\"scan\",\"a\",\"b\"]},{\"name\":\"q\",\"key\":\"101112131415161718191a1b1c1d1e1f\",\"asks\":[\"bank\"],\"offers\":[\"scan\"]}],\"artefacts\":[{\"place\":\"bank\",\"name\":\"scan\",\"bytes\":\"0102\"}],\"sessions\":[{\"root\":\"bank\",\"nonce\":\"000102030405060708090a0b0c0d0e0f\",\"phrase\":\"USM scan -> SIG\"},{\"root\":\"bank\",\"nonce\":\"100102030405060708090a0b0c0d0e0f\",\"phrase\":\"USM scan -> SIG\"},{\"root\":\"bank\",\"nonce\":\"200102030405060708090a0b0c0d0e0f\",\"phrase\":\"@q [@bank [@q [CPY]]]\"},{\"root\":\"bank\",\"nonce\":\"300102030405060708090a0b0c0d0e0f\",\"phrase\":\"USM a -<+ USM b\"}]}";
 
 const BANK_CHECK: &str =
@@ -26,7 +26,7 @@ const BANK_CODE: &str =
 const BANK_EVAL: &str =
     "session 0 done\nanswer 2 1d5ec4fccf77d8948903efcd51246f62f94e8271f0cb18d9b69f79787cddd676\nanswer 6 966ba0f65ff9c3b152b55ebbc18f29d4b995057eb63ec2dcc03e4e86c3bee329\nanswer 7 9b2bc8699c35df1c3a107e1ef36989296d5a1cab6370e71caaaaa5a0c4a15469\nbundle 43504c4201000000e2060400000003ef195e4c653855da7a1d91b0d9e830a3c12b2f94ed9501067003bb6e34590b1e030000000200201d5ec4fccf77d8948903efcd51246f62f94e8271f0cb18d9b69f79787cddd67601f0f1f2f3f4f5f6f7f8f9fafbfcfdfeff040000000823615b8221b1a0920c84aaaa3242b40a4279eecbcc0418bec5b1867e7215dfc4020000000700209b2bc8699c35df1c3a107e1ef36989296d5a1cab6370e71caaaaa5a0c4a1546902000000060020966ba0f65ff9c3b152b55ebbc18f29d4b995057eb63ec2dcc03e4e86c3bee32901f0f1f2f3f4f5f6f7f8f9fafbfcfdfeff\n";
 
-const BANK_WALK_0: &str =
+pub const BANK_WALK_0: &str =
     "session 0 done\ntrace 0 1 2 3 4 5 6 7 8 9 10\nanswer 2 1d5ec4fccf77d8948903efcd51246f62f94e8271f0cb18d9b69f79787cddd676\nanswer 6 966ba0f65ff9c3b152b55ebbc18f29d4b995057eb63ec2dcc03e4e86c3bee329\nanswer 7 9b2bc8699c35df1c3a107e1ef36989296d5a1cab6370e71caaaaa5a0c4a15469\nbundle 43504c4201000000e2060400000003ef195e4c653855da7a1d91b0d9e830a3c12b2f94ed9501067003bb6e34590b1e030000000200201d5ec4fccf77d8948903efcd51246f62f94e8271f0cb18d9b69f79787cddd67601f0f1f2f3f4f5f6f7f8f9fafbfcfdfeff040000000823615b8221b1a0920c84aaaa3242b40a4279eecbcc0418bec5b1867e7215dfc4020000000700209b2bc8699c35df1c3a107e1ef36989296d5a1cab6370e71caaaaa5a0c4a1546902000000060020966ba0f65ff9c3b152b55ebbc18f29d4b995057eb63ec2dcc03e4e86c3bee32901f0f1f2f3f4f5f6f7f8f9fafbfcfdfeff\n";
 
 const FOUR_CHECK: &str =
@@ -44,7 +44,7 @@ const FOUR_CODE: &str =
 const FOUR_EVAL: &str =
     "session 0 done\nanswer 0 ef1697f6baa17ed070c8baccaee10f159fc069a3018fee9ed7127ad070869b7b\nbundle 43504c42010000005d0400000001b7e44129a53779ae0ea91fb1824cea17cdb322489aa3f78a4043354a69f5507e02000000000020ef1697f6baa17ed070c8baccaee10f159fc069a3018fee9ed7127ad070869b7b01000102030405060708090a0b0c0d0e0f\nsession 1 done\nanswer 0 ef1697f6baa17ed070c8baccaee10f159fc069a3018fee9ed7127ad070869b7b\nbundle 43504c42010000005d04000000017aaaa0059d1c3bed7eed19c173ffe385cbf74e5a2c8d14431266a0af9c37c3bc02000000000020ef1697f6baa17ed070c8baccaee10f159fc069a3018fee9ed7127ad070869b7b01100102030405060708090a0b0c0d0e0f\nsession 2 done\nbundle 43504c42010000001101200102030405060708090a0b0c0d0e0f\nsession 3 failed 1 no-artefact\n";
 
-const FOUR_WALK_0: &str =
+pub const FOUR_WALK_0: &str =
     "session 0 done\ntrace 0 1\nanswer 0 ef1697f6baa17ed070c8baccaee10f159fc069a3018fee9ed7127ad070869b7b\nbundle 43504c42010000005d0400000001b7e44129a53779ae0ea91fb1824cea17cdb322489aa3f78a4043354a69f5507e02000000000020ef1697f6baa17ed070c8baccaee10f159fc069a3018fee9ed7127ad070869b7b01000102030405060708090a0b0c0d0e0f\nsession 1 done\ntrace 0 1\nanswer 0 ef1697f6baa17ed070c8baccaee10f159fc069a3018fee9ed7127ad070869b7b\nbundle 43504c42010000005d04000000017aaaa0059d1c3bed7eed19c173ffe385cbf74e5a2c8d14431266a0af9c37c3bc02000000000020ef1697f6baa17ed070c8baccaee10f159fc069a3018fee9ed7127ad070869b7b01100102030405060708090a0b0c0d0e0f\nsession 2 done\ntrace 0 1 2 3 4 5 6\nbundle 43504c42010000001101200102030405060708090a0b0c0d0e0f\nsession 3 failed 1 no-artefact\ntrace 0\n";
 
 #[test]

@@ -1,15 +1,16 @@
 //! Laws of the commands, which the functions of this module carry. They do nothing.
 
-ghost use Rattle.std.specs.Prelude.{◌≡◌, ℕ, List};
+ghost use Rattle.std.specs.Prelude.{◌≡◌, ℕ, List, false};
 ghost use Rattle.job_reader.specs.Finding.{JobView, IsAccepted};
 ghost use Rattle.report_text.specs.Records.{records_text, values_text};
+ghost use Rattle.copland_cli.specs.Alike.{DifferInTraces};
 ghost use Rattle.copland_cli.specs.Commands.{IsBuilt, IsPlain};
 ghost use Rattle.copland_cli.specs.Digests.{DigestGives, DigestFails, DigestStarves, IsDoneWhereThere};
 ghost use Rattle.copland_cli.specs.Input.{is_required};
 ghost use Rattle.copland_cli.specs.Meaning.{IsDecisive, IsReport, RefusesJob};
 ghost use Rattle.copland_cli.specs.declared.ending.Ending.{Ending};
 ghost use Rattle.copland_cli.specs.declared.input.BundleNeed.{BundleNeed};
-ghost use Rattle.copland_cli.specs.Command.{Command, Eval, Walk};
+ghost use Rattle.copland_cli.specs.Command.{Command, Attest, Eval, Walk};
 
 use bench_trait::Bench;
 use job_reader::one_finding;
@@ -45,7 +46,7 @@ pub fn reports_follow_from_bytes(_bytes: &[u8])
     reading_law();
 }
 
-/// Over `DigestBench`, a session that is evaluated or walked is done exactly where the job has each
+/// Over `DigestBench`, a session that is evaluated, walked or attested is done exactly where the job has each
 /// artefact that the session asks for.
 pub fn sessions_are_done_where_artefacts_are_there()
     ensures eval { (job : JobView) (text : List ℕ) (ending : Ending) →
@@ -54,4 +55,25 @@ pub fn sessions_are_done_where_artefacts_are_there()
     ensures walk { (number : ℕ) (job : JobView) (text : List ℕ) (ending : Ending) →
         IsReport DigestGives DigestFails DigestStarves (Walk number) job text ending →
         IsDoneWhereThere job.artefacts job.sessions records_text text ending }
+    ensures attest { (workers : ℕ) (job : JobView) (text : List ℕ) (ending : Ending) →
+        IsReport DigestGives DigestFails DigestStarves (Attest workers) job text ending →
+        IsDoneWhereThere job.artefacts job.sessions records_text text ending }
 {}
+
+/// Over `DigestBench`, what `attest` reports on jobs of the same bytes differs at most in the traces, if no
+/// session failed, whatever the two numbers of workers are: each session has the same answers and the same
+/// bundle, and it fails in the one report where it fails in the other. So it is with a walk and `attest`.
+pub fn attested_reports_differ_in_traces(_bytes: &[u8])
+    ensures attest { (workers others : ℕ) (job other : JobView) (text written : List ℕ) (ending ended : Ending) →
+        IsAccepted _bytes.now false job → IsAccepted _bytes.now false other →
+        IsReport DigestGives DigestFails DigestStarves (Attest workers) job text ending →
+        IsReport DigestGives DigestFails DigestStarves (Attest others) other written ended →
+        DifferInTraces text written ending ended }
+    ensures walk { (number workers : ℕ) (job other : JobView) (text written : List ℕ) (ending ended : Ending) →
+        IsAccepted _bytes.now false job → IsAccepted _bytes.now false other →
+        IsReport DigestGives DigestFails DigestStarves (Walk number) job text ending →
+        IsReport DigestGives DigestFails DigestStarves (Attest workers) other written ended →
+        DifferInTraces text written ending ended }
+{
+    one_finding(_bytes, false);
+}

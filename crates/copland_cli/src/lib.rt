@@ -1,10 +1,13 @@
 //! The commands of Cerealspit, which carries out phrases of Copland, the language of layered attestation,
-//! and appraises the bundles that they make. `plain_top` is the whole program except for the ports and
-//! the bench: from the words and the bytes that come in to the bytes that go out and the exit status. A
-//! program with measurements of its own implements `Bench`, calls `plain_top`, and ends with the code of
-//! the status.
+//! and appraises the bundles that they make. `top` is the whole program except for the ports and the
+//! bench: from the words and the bytes that come in to the bytes that go out and the exit status.
+//! `plain_top` is the same without threads, and so without `attest`. A program with measurements of its
+//! own implements `Bench`, calls `top`, and ends with the code of the status.
 #![tactic(auto)]
 
+mod attest;
+#[cfg(test)]
+mod attest_tests;
 mod choose;
 #[cfg(test)]
 mod choose_tests;
@@ -17,6 +20,7 @@ mod order;
 #[cfg(test)]
 mod order_tests;
 mod outcome;
+mod plain;
 #[cfg(test)]
 mod refusal_tests;
 mod session;
@@ -25,14 +29,16 @@ mod status;
 mod test_runs;
 #[cfg(test)]
 mod tests;
-mod top;
+mod threaded;
 mod walk;
 #[cfg(test)]
 mod walk_tests;
 mod words;
 
 pub use laws::{
-    commands_are_decisive, reports_follow_from_bytes, sessions_are_done_where_artefacts_are_there,
+    attested_reports_differ_in_traces, commands_are_decisive, reports_follow_from_bytes,
+    sessions_are_done_where_artefacts_are_there,
 };
+pub use plain::{plain_top, refuse};
 pub use status::Status;
-pub use top::{plain_top, refuse};
+pub use threaded::top;

@@ -69,7 +69,8 @@ fn is_built(command: Command<'_>) -> bool
     match command {
         Command::Check | Command::Shape | Command::Events | Command::Code => true,
         Command::Eval | Command::Walk(_) | Command::Order(_) | Command::Choose(_) => true,
-        Command::Attest(_) | Command::Appraise | Command::Load(_) => false,
+        Command::Attest(_) => true,
+        Command::Appraise | Command::Load(_) => false,
     }
 }
 
@@ -80,7 +81,8 @@ fn run<S: Source, B: Bench>(
     source: &mut S,
     bench: &B,
 ) -> Outcome
-    requires { IsBuilt (command_view command) }
+    requires built { IsBuilt (command_view command) }
+    requires plain { IsPlain (command_view command) }
     ensures { IsRun (B.gives bench.now) (B.fails bench.now) (B.starves bench.now) (command_view command.entry)
         (port S.left S.faults source.old source.new)
         result }
@@ -97,6 +99,7 @@ fn run<S: Source, B: Bench>(
 /// Carries out a command over an accepted job.
 fn run_over<B: Bench>(alloc: Global, command: Command<'_>, job: &Job, bench: &B) -> Outcome
     requires built { IsBuilt (command_view command) }
+    requires plain { IsPlain (command_view command) }
     requires checked { HasCheckedSessions job.now }
     requires few { length job.now.sessions.items ≤ 256 }
     ensures { IsMeant (B.gives bench.now) (B.fails bench.now) (B.starves bench.now) (command_view command.entry) (job_view job.now) result }
@@ -115,6 +118,7 @@ fn report_on<B: Bench>(
     bench: &B,
 ) -> Result<Report, NoMemory>
     requires built { IsBuilt (command_view command) }
+    requires plain { IsPlain (command_view command) }
     requires checked { HasCheckedSessions job.now }
     requires few { length job.now.sessions.items ≤ 256 }
     ensures { IfOk result (λ report. IsReport (B.gives bench.now) (B.fails bench.now) (B.starves bench.now) (command_view command.entry) (job_view job.now) report.text report.ending) }

@@ -1,13 +1,16 @@
 // Runs of the program in tests: over ports in memory, with what it must answer and write.
 
+use crate::plain::plain_top;
 use crate::status::Status;
-use crate::top::plain_top;
+use crate::threaded::top;
 use bench_trait::{Bench, DigestBench, TableBench, TableResult, TableRow};
 use byte_ports::{Behaviour, MemSink, MemSource};
 use evidence_types::Answer;
 use std::alloc::Global;
 use std::process::Abort;
+use std::sync::Wait;
 use std::test::Fail;
+use std::thread::Threads;
 
 const NO_CALLS: [u64; 0] = [];
 
@@ -184,5 +187,41 @@ pub fn expect_measured(
         let want = (*status, *report);
         expect_with(rt, alloc, words, job.as_str(), &WHOLE, bench, want)?;
     }
+    Ok(())
+}
+
+/// Runs the program with threads and this bench, and gives what it answers and the sink.
+pub fn run_top<R: Threads + Wait + Sync, B: Bench + Sync>(
+    rt: &R,
+    alloc: Global,
+    words: &str,
+    input: &str,
+    bench: &B,
+) -> Result<(Status, MemSink), Fail> {
+    let list = words_of(alloc, words)?;
+    let mut source = source_of(alloc, input.as_bytes(), &WHOLE)?;
+    let mut sink = sink_of(alloc, &WHOLE)?;
+    let status = top(rt, alloc, list.as_slice(), &mut source, &mut sink, bench);
+    Ok((status, sink))
+}
+
+/// Runs the program with threads and this bench, and checks its status, and that it wrote one of these.
+pub fn expect_top<R: Abort + Threads + Wait + Sync, B: Bench + Sync>(
+    rt: &R,
+    alloc: Global,
+    words: &str,
+    input: &str,
+    bench: &B,
+    want: (Status, &[&str]),
+) -> Result<(), Fail> {
+    let (status, sink) = run_top(rt, alloc, words, input, bench)?;
+    assert_eq!(rt; status, want.0, "at the words {words}");
+    let mut found = false;
+    for text in want.1 {
+        if sink.taken() == text.as_bytes() {
+            found = true;
+        }
+    }
+    assert!(rt; found, "at the words {words}");
     Ok(())
 }

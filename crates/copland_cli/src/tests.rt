@@ -1,5 +1,6 @@
 use crate::laws::{
-    commands_are_decisive, reports_follow_from_bytes, sessions_are_done_where_artefacts_are_there,
+    attested_reports_differ_in_traces, commands_are_decisive, reports_follow_from_bytes,
+    sessions_are_done_where_artefacts_are_there,
 };
 use crate::status::Status;
 use crate::test_runs::{
@@ -406,4 +407,5 @@ fn laws_are_called(_rt: HostRuntime) {
     commands_are_decisive::<DigestBench>();
     reports_follow_from_bytes(b"{}");
     sessions_are_done_where_artefacts_are_there();
+    attested_reports_differ_in_traces(b"{}");
 }

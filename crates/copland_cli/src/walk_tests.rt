@@ -117,7 +117,7 @@ fn a_session_that_starves_ends_the_walk(rt: HostRuntime) -> Result<(), Fail> {
 
 // Three sessions. The second fails at its last event; the others go on.
 
-const THREE_SESSIONS: &str =
+pub const THREE_SESSIONS: &str =
     "{\"places\":[{\"name\":\"bank\",\"key\":\"000102030405060708090a0b0c0d0e0f\",\"asks\":[\"q\"],\"sees\":[\"q\"],\"offers\":[\"scan\",\"a\",\"b\"]},{\"name\":\"q\",\"key\":\"101112131415161718191a1b1c1d1e1f\",\"offers\":[\"scan\"]}],\"artefacts\":[{\"place\":\"bank\",\"name\":\"scan\",\"bytes\":\"0102\"},{\"place\":\"q\",\"name\":\"scan\",\"bytes\":\"03\"}],\"sessions\":[{\"root\":\"bank\",\"nonce\":\"000102030405060708090a0b0c0d0e0f\",\"phrase\":\"USM scan +~- @q [CPY]\"},{\"root\":\"bank\",\"nonce\":\"100102030405060708090a0b0c0d0e0f\",\"phrase\":\"(CPY +~- USM scan) -> USM a\"},{\"root\":\"bank\",\"nonce\":\"200102030405060708090a0b0c0d0e0f\",\"phrase\":\"@q [USM scan -> HSH] +~- CPY\"}]}";
 
 const FIRST_EVIDENCE: &str =

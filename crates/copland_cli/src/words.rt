@@ -1,7 +1,7 @@
-ghost use Rattle.std.specs.Prelude.{◌≡◌, ◌↔◌, ◌^◌, ◌<◌, ◌≤◌, ℕ, IsTrue, MatchOption, codes, decimal, [], ◌∷◌};
+ghost use Rattle.std.specs.Prelude.{◌≡◌, ◌≢◌, ◌↔◌, ◌^◌, ◌<◌, ◌≤◌, ℕ, IsTrue, MatchOption, codes, decimal, [], ◌∷◌};
 ghost use Rattle.order_policy.specs.Policy.{IsPolicyText};
 ghost use Rattle.release_policy.specs.PolicyText.{HasPolicy};
-ghost use Rattle.copland_cli.specs.Command.{command_view};
+ghost use Rattle.copland_cli.specs.Command.{Attest, command_view};
 ghost use Rattle.copland_cli.specs.Words.{IsNoNumber, IsNoCommand, Spells, texts};
 
 use crate::input::{BundleNeed, Input};
@@ -62,6 +62,32 @@ pub fn command_of(words: &[String]) -> Option<Command<'_>>
         [word, second] => paired(word.as_str(), second.as_str()),
         [word, flag, number] => flagged(word.as_str(), flag.as_str(), number.as_str()),
         _ => None,
+    }
+}
+
+/// The number of workers, where the words are those of `attest`.
+pub fn workers_in(words: &[String]) -> Option<u32>
+    ensures { MatchOption result
+        ((workers : ℕ) → ¬ Spells (texts words.now) (Attest workers))
+        (λ workers. Spells (texts words.now) (Attest workers)) }
+{
+    match command_of(words) {
+        Some(command) => workers_by(command),
+        None => None,
+    }
+}
+
+/// The number of workers of the command, if it is `attest`.
+fn workers_by(command: Command<'_>) -> Option<u32>
+    ensures { MatchOption result
+        ((workers : ℕ) → command_view command.entry ≢ Attest workers)
+        (λ workers. command_view command.entry ≡ Attest workers) }
+{
+    match command {
+        Command::Attest(workers) => Some(workers),
+        Command::Check | Command::Shape | Command::Events | Command::Code | Command::Eval => None,
+        Command::Walk(_) | Command::Order(_) | Command::Choose(_) => None,
+        Command::Appraise | Command::Load(_) => None,
     }
 }
 

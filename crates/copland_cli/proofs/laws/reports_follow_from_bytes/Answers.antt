@@ -13,7 +13,7 @@ pub returns : goal.returns
 returns c = λ command need job other text written ending ended built plain one two h k.
     on_one_finding DigestGives DigestFails DigestStarves (λ job session record' again a b. c.digests_make_one_record.ensures job.artefacts session (keys_of job.places) record' again a b)
     (λ job number one other a b. c.digests_make_one_walk.ensures job.artefacts (place_names job.places) (keys_of job.places) job.sessions number one other a b)
-    (record { policy = c.policy_law.ensures; judged = c.judged_law.ensures; release = c.reading_law.ensures.policy }) command job other text written ending ended
+    (record { policy = c.policy_law.ensures; judged = c.judged_law.ensures; release = c.reading_law.ensures.policy }) command job other text written ending ended plain
     ((elim need as (λ n. IsAccepted c.args._bytes.now (is_required n) job → IsAccepted c.args._bytes.now (is_required n) other → accepted job ≡ accepted other) [
       | Optional ↦ λ a b. c.one_finding.ensures (accepted job) (accepted other) a b
       | Required ↦ λ a b. c.one_finding-2.ensures (accepted job) (accepted other) a b

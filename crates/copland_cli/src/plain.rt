@@ -69,7 +69,7 @@ pub fn refuse<K: Sink>(sink: &mut K, refusal: &Refusal) -> Status
 }
 
 /// Writes what was decided, and answers it.
-fn conclude<K: Sink>(sink: &mut K, outcome: &Outcome) -> Status
+pub(crate) fn conclude<K: Sink>(sink: &mut K, outcome: &Outcome) -> Status
     ensures { IsConcluded (port K.taken K.faults sink.old sink.new) outcome.now result }
 {
     match outcome {

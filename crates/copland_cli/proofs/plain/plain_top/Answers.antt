@@ -3,7 +3,7 @@ use Rattle.copland_cli.specs.Commands.{IsPlain}
 use Rattle.copland_cli.specs.Port.{port}
 use Rattle.copland_cli.specs.Words.{texts}
 use Rattle.copland_cli.proofs.AnswerLemmas.{bad_words, causes, exact, too_long}
-use Rattle.copland_cli.proofs.top.plain_top.Goals as goal
+use Rattle.copland_cli.proofs.plain.plain_top.Goals as goal
 
 pub returns-clause-answer : goal.returns-clause-answer
 returns-clause-answer g c = (c.decide-outcome.result, c.decide-outcome.ensures, c.conclude.ensures)

@@ -1,0 +1,90 @@
+-- From what was decided and concluded to what `attest` writes; and from the commands of one thread to all.
+use Rattle.std.proofs.Common.{◌≡◌, ◌∙◌, ◌≤◌, ℕ, List, length, false, ap, sym, subst, arith, inl, inr}
+use Rattle.std.specs.Prelude.{Some}
+use Rattle.job_reader.specs.Finding.{Finding, IsFinding, JobView, accepted, refused}
+use Rattle.report_text.specs.Records.{records_text}
+use Rattle.report_text.specs.declared.refusal.Refusal.{Refusal}
+use Rattle.report_text.specs.declared.refusal.Refusal.TheVariants as refusals
+use Rattle.copland_cli.specs.Answer.{IsAnswer}
+use Rattle.copland_cli.specs.Attested.{AreAttestations, AttestsEachJob, HasAttested, IsAttesting, IsOfAttestations}
+use Rattle.copland_cli.specs.Command.{Command, Check, Shape, Events, Code, Eval, Walk, Order, Choose, Attest, Appraise, Load}
+use Rattle.copland_cli.specs.Commands.{IsAny, IsPlain}
+use Rattle.copland_cli.specs.Concluded.{IsConcluded}
+use Rattle.copland_cli.specs.Input.{IsUnreadable}
+use Rattle.copland_cli.specs.Outcome.{IsDecided, IsRun}
+use Rattle.copland_cli.specs.Port.{Port, TookAll}
+use Rattle.copland_cli.specs.Reported.{Failing, Giving, Starving}
+use Rattle.copland_cli.specs.Status.{ending_status, status_of}
+use Rattle.copland_cli.specs.Words.{IsBadWords, Spells}
+use Rattle.copland_cli.specs.declared.ending.Ending.{Ending}
+use Rattle.copland_cli.specs.declared.input.BundleNeed.TheVariants.{Optional}
+use Rattle.copland_cli.specs.declared.outcome.Outcome.{Outcome}
+use Rattle.copland_cli.specs.declared.outcome.Outcome.TheVariants.{Refused, Reported}
+use Rattle.copland_cli.specs.declared.status.Status.{Status}
+use Rattle.copland_cli.proofs.AnswerLemmas.{run_of, same_finding}
+use Rattle.copland_cli.proofs.PortLemmas.{within}
+
+-- ---- from one thread to all commands
+
+none_known : (words : List (List ℕ)) → ((workers : ℕ) → ¬ Spells words (Attest workers)) → IsBadWords IsPlain words → (command : Command) → ¬ Spells words command
+none_known words none bad Check spelled = bad Check spelled tt
+none_known words none bad Shape spelled = bad Shape spelled tt
+none_known words none bad Events spelled = bad Events spelled tt
+none_known words none bad Code spelled = bad Code spelled tt
+none_known words none bad Eval spelled = bad Eval spelled tt
+none_known words none bad (Walk number) spelled = bad (Walk number) spelled tt
+none_known words none bad (Order text) spelled = bad (Order text) spelled tt
+none_known words none bad (Choose text) spelled = bad (Choose text) spelled tt
+none_known words none bad (Attest workers) spelled = none workers spelled
+none_known words none bad Appraise spelled = bad Appraise spelled tt
+none_known words none bad (Load number) spelled = bad (Load number) spelled tt
+
+decided_of_any : (Gives : Giving) (Fails : Failing) (Starves : Starving) (words : List (List ℕ)) (source : Port) (outcome : Outcome) → ((workers : ℕ) → ¬ Spells words (Attest workers)) → IsDecided IsPlain Gives Fails Starves words source outcome → IsDecided IsAny Gives Fails Starves words source outcome
+decided_of_any Gives Fails Starves words source outcome none (inl run) = inl (run.0, run.1, tt, run.3, run.4)
+decided_of_any Gives Fails Starves words source outcome none (inr (inl bad)) = inr (inl ((λ command spelled known. none_known words none bad.0 command spelled), bad.1, bad.2))
+decided_of_any Gives Fails Starves words source outcome none (inr (inr unbuilt)) = inr (inr (unbuilt.0, unbuilt.1, tt, unbuilt.3, unbuilt.4, unbuilt.5))
+
+-- words that aren't those of `attest` have among all commands the answer that they have on one thread
+pub answer_of_any : (Gives : Giving) (Fails : Failing) (Starves : Starving) (words : List (List ℕ)) (source sink : Port) (status : Status) → ((workers : ℕ) → ¬ Spells words (Attest workers)) → IsAnswer (IsDecided IsPlain Gives Fails Starves words source) sink status → IsAnswer (IsDecided IsAny Gives Fails Starves words source) sink status
+answer_of_any Gives Fails Starves words source sink status none h =
+    (h.0, decided_of_any Gives Fails Starves words source h.0 none h.1, h.2)
+
+-- ---- the headline
+
+job_same : (one other : JobView) → accepted one ≡ accepted other → one ≡ other
+job_same one other same = cc
+
+not_refused : (words : List (List ℕ)) (source sink : Port) (job : JobView) (status : Status) (why : Refusal) → IsAttesting words source sink job status → status ≡ status_of why → ¬ IsUnreadable Optional source why
+not_refused words source sink job status refusals.Words a at h = h
+not_refused words source sink job status refusals.Unbuilt a at h = h
+not_refused words source sink job status refusals.ReadFault a at h = a.read h.0
+not_refused words source sink job status refusals.TooLong a at h =
+    let few = within source.bytes_before source.bytes_after a.bytes h.0 a.told h.1 in omega (arith, few, a.short, h.2)
+not_refused words source sink job status (refusals.Job error) a at h =
+    let same : refused error ≡ accepted job = same_finding Optional source a.bytes (accepted job) (refused error) a.told a.accepted h in cc
+not_refused words source sink job status (refusals.NoReference event) a at h = h
+not_refused words source sink job status (refusals.BadBundle place kind) a at h = h
+not_refused words source sink job status (refusals.BadShape node) a at h = h
+not_refused words source sink job status refusals.NoMemory a at h = a.memory at
+
+attested_by : (Gives : Giving) (Fails : Failing) (sink : Port) (job : JobView) (status : Status) (text : List ℕ) (ending : Ending) → IsOfAttestations Gives Fails job text ending → status ≡ ending_status ending → TookAll sink text → HasAttested Gives Fails sink job status
+attested_by Gives Fails sink job status text ending h at took = record {
+  records = h.records;
+  each = h.each;
+  written = subst (λ (t : List ℕ). TookAll sink t) h.reported took;
+  ended = at ∙ ap (λ (e : Ending). ending_status e) h.ended;
+}
+
+concluded_so : (Gives : Giving) (Fails : Failing) (Starves : Starving) (words : List (List ℕ)) (source sink : Port) (job : JobView) (status : Status) (outcome : Outcome) (a : IsAttesting words source sink job status) → IsRun Gives Fails Starves (Attest a.workers) source outcome → IsConcluded sink outcome status → HasAttested Gives Fails sink job status
+concluded_so Gives Fails Starves words source sink job status (Refused why) a (inl h) c =
+    absurd (not_refused words source sink job status why a c.0 h)
+concluded_so Gives Fails Starves words source sink job status (Refused why) a (inr h) c = absurd h.2
+concluded_so Gives Fails Starves words source sink job status (Reported report) a h (inl c) =
+    let same = job_same h.0 job (same_finding Optional source a.bytes (accepted job) (accepted h.0) a.told a.accepted h.1) in
+    let of_job = subst (λ (j : JobView). IsOfAttestations Gives Fails j report.text report.ending) same h.2 in
+    attested_by Gives Fails sink job status report.text report.ending of_job c.0 c.1
+concluded_so Gives Fails Starves words source sink job status (Reported report) a h (inr c) = absurd (a.written c.1.0)
+
+pub headline : (Gives : Giving) (Fails : Failing) (Starves : Starving) (words : List (List ℕ)) (source sink : Port) (outcome : Outcome) (status : Status) → IsDecided IsAny Gives Fails Starves words source outcome → IsConcluded sink outcome status → AttestsEachJob Gives Fails words source sink status
+headline Gives Fails Starves words source sink outcome status h c = λ job a.
+    concluded_so Gives Fails Starves words source sink job status outcome a (run_of IsAny Gives Fails Starves words source outcome (Attest a.workers) h a.spelled tt tt) c
