@@ -9,7 +9,6 @@ reading and checking it, is taken away. With four workers `attest` is to be at l
 `walk 0`, on four processors; with one it is to take at most 1.1 times as long. All write the same
 answers and bundles, which are compared."""
 
-import json
 import os
 import sys
 import tempfile
@@ -18,38 +17,21 @@ import common
 
 FASTER = 2.5
 SLOWER = 1.1
-SESSIONS = 256
 PHRASE = " -> ".join(["USM a -> CPY -> CPY -> CPY -> SIG"] * 200)
-
-
-def job():
-    return json.dumps({
-        "places": [{"name": "bank", "key": bytes(range(16)).hex(), "offers": ["a"]}],
-        "artefacts": [{"place": "bank", "name": "a", "bytes": "5a" * 64}],
-        "sessions": [
-            {"root": "bank", "nonce": session.to_bytes(16, "big").hex(), "phrase": PHRASE}
-            for session in range(SESSIONS)
-        ],
-    }, separators=(",", ":"))
-
-
-def without_traces(report):
-    return b"\n".join(line for line in report.split(b"\n") if not line.startswith(b"trace"))
 
 
 def main():
     times = common.times()
     with tempfile.TemporaryDirectory() as folder:
         path = os.path.join(folder, "job")
-        with open(path, "w") as sink:
-            sink.write(job())
+        common.write_job(path, [common.place("bank", ["a"])], [common.artefact("bank", "a")], PHRASE)
         read = common.run(["check"], path, times).took
         walked = common.run(["walk", "0"], path, times)
         alone = walked.took - read
         taken = {}
         for workers in (1, 2, 4):
             found = common.run(["attest", "--workers", str(workers)], path, times)
-            if without_traces(found.report) != without_traces(walked.report):
+            if common.without_traces(found.report) != common.without_traces(walked.report):
                 sys.exit("%d workers: the answers or bundles differ" % workers)
             taken[workers] = found.took - read
             print("%d workers: %.3f s beside %.3f s of walk 0, %.2f times as fast; %.3f s of processor time, %.0f MB" % (

@@ -1,6 +1,7 @@
-"""What the benchmarks share: where the program is, and how it is run and timed."""
+"""What the benchmarks share: the jobs, where the program is, and how it is run and timed."""
 
 import collections
+import json
 import os
 import subprocess
 import sys
@@ -15,8 +16,51 @@ MOST_BYTES = 4_194_304
 # The status of a job with a fault of form.
 BAD_JOB = 6
 
+# The most sessions that a job may have.
+SESSIONS = 256
+
 # The least time and the least processor time in seconds, the most memory in megabytes, and the report.
 Runs = collections.namedtuple("Runs", "took worked memory report")
+
+
+def place(name, offers, asks=()):
+    """A place of a job, with a key that its name tells."""
+    return {"name": name, "key": name.encode().ljust(16, b".").hex(), "asks": list(asks), "offers": list(offers)}
+
+
+def artefact(place, name):
+    """An artefact of 64 bytes."""
+    return {"place": place, "name": name, "bytes": "5a" * 64}
+
+
+def nonce_of(session):
+    """The nonce of a session, from its number."""
+    return session.to_bytes(16, "big")
+
+
+def job_of(places, artefacts, phrases):
+    """A job with a session for each phrase, at the first place, with the nonce of its number."""
+    return json.dumps({
+        "places": places,
+        "artefacts": artefacts,
+        "sessions": [
+            {"root": places[0]["name"], "nonce": nonce_of(session).hex(), "phrase": phrase}
+            for session, phrase in enumerate(phrases)
+        ],
+    }, separators=(",", ":"))
+
+
+def write_job(path, places, artefacts, phrase):
+    """Writes a job with as many sessions of one phrase as a job may have."""
+    with open(path, "w") as sink:
+        sink.write(job_of(places, artefacts, [phrase] * SESSIONS))
+    if os.path.getsize(path) > MOST_BYTES:
+        sys.exit("%s: the job is too long" % path)
+
+
+def without_traces(report):
+    """A report's lines but those of traces: what two schedules of a job have in common."""
+    return b"\n".join(line for line in report.split(b"\n") if not line.startswith(b"trace"))
 
 
 def run(words, job, times, wanted=0):

@@ -20,7 +20,6 @@ those computed here."""
 
 import hashlib
 import hmac
-import json
 import os
 import sys
 import tempfile
@@ -44,20 +43,13 @@ BLOCK = 64
 LIMIT = 1.3
 
 
-def nonce_of(session):
-    return session.to_bytes(16, "big")
-
-
 def job_of(artefact, phrases):
     """A job of one place that measures this artefact by its name `a`, with a session for each phrase."""
-    return json.dumps({
-        "places": [{"name": PLACE.decode(), "key": KEY.hex(), "offers": ["a"]}],
-        "artefacts": [{"place": PLACE.decode(), "name": "a", "bytes": artefact.hex()}],
-        "sessions": [
-            {"root": PLACE.decode(), "nonce": nonce_of(session).hex(), "phrase": phrase}
-            for session, phrase in enumerate(phrases)
-        ],
-    }, separators=(",", ":"))
+    return common.job_of(
+        [{"name": PLACE.decode(), "key": KEY.hex(), "offers": ["a"]}],
+        [{"place": PLACE.decode(), "name": "a", "bytes": artefact.hex()}],
+        phrases,
+    )
 
 
 def blocks_of(message):
@@ -69,7 +61,7 @@ def evaluated(session):
     """The bundle of a session, the blocks that are hashed for its seals, and the seconds of processor time that
     hmac took."""
     answer = hashlib.sha256(b"a\0" + ARTEFACT).digest()
-    nonce = nonce_of(session)
+    nonce = common.nonce_of(session)
     value = b"\x01" + nonce
     blocks = 0
     seconds = 0.0

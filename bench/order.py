@@ -8,7 +8,6 @@ half `b0` to `b7`, and the 64 claims say that each of the first comes before eac
 every session, so each claim is looked at in each of them. Each command is run TIMES times (5 if not given),
 and the least processor time counts: `order` is to take at most 5 times what `events` takes."""
 
-import json
 import os
 import sys
 import tempfile
@@ -16,7 +15,6 @@ import tempfile
 import common
 
 LIMIT = 5
-SESSIONS = 256
 BLOCKS = 8
 BLOCK = 256
 MEASURED = 72
@@ -33,16 +31,8 @@ def phrase():
     return " -> ".join(parts)
 
 
-def job():
-    offers = ["%s%d" % (letter, number) for letter in "ab" for number in range(NAMES)]
-    return json.dumps({
-        "places": [{"name": "p", "key": bytes(range(16)).hex(), "offers": offers}],
-        "artefacts": [],
-        "sessions": [
-            {"root": "p", "nonce": session.to_bytes(16, "big").hex(), "phrase": phrase()}
-            for session in range(SESSIONS)
-        ],
-    }, separators=(",", ":"))
+def offers():
+    return ["%s%d" % (letter, number) for letter in "ab" for number in range(NAMES)]
 
 
 def claims():
@@ -53,13 +43,10 @@ def main():
     times = common.times()
     with tempfile.TemporaryDirectory() as folder:
         path = os.path.join(folder, "job")
-        with open(path, "w") as sink:
-            sink.write(job())
-        if os.path.getsize(path) > common.MOST_BYTES:
-            sys.exit("the job is too long")
+        common.write_job(path, [common.place("p", offers())], [], phrase())
         listed = common.run(["events"], path, times)
         judged = common.run(["order", claims()], path, times)
-    if judged.report.count(b" holds") != SESSIONS * NAMES * NAMES:
+    if judged.report.count(b" holds") != common.SESSIONS * NAMES * NAMES:
         sys.exit("not every claim holds: %r" % judged.report[:200])
     ratio = judged.worked / listed.worked
     print("events %.3f s, %.0f MB; order %.3f s, %.2f times as long, %.0f MB" % (
