@@ -2,28 +2,21 @@
 //! with digests of the job's artefacts as measurements, and ends with the code of the status.
 #![tactic(auto)]
 
+mod words;
+
 use bench_trait::DigestBench;
 use byte_ports::{StdSink, StdSource};
 use copland_cli::{refuse, top};
 use report_text::Refusal;
-use std::env::Env;
+use retrying_io::{RetryingReader, RetryingWriter};
 use std::io::ErrorKind;
 use std::process::ExitCode;
-use std::{env, io};
-
-/// The words after the program's name.
-fn words_of<R: Env + AllocGlobal>(rt: &R) -> io::Result<Vec<String>> {
-    let mut words = Vec::new(rt.alloc());
-    for word in env::args(rt)?.skip(1) {
-        words.push(word)?;
-    }
-    Ok(words)
-}
+use words::words_of;
 
 fn main(rt: HostRuntime) -> ExitCode {
     let alloc = rt.alloc();
-    let mut source = StdSource::over(rt.reader());
-    let mut sink = StdSink::over(rt.stdout());
+    let mut source = StdSource::over(RetryingReader::over(rt.reader()));
+    let mut sink = StdSink::over(RetryingWriter::over(rt.stdout()));
     let status = match words_of(&rt) {
         Ok(words) => top(
             &rt,
