@@ -1,0 +1,13 @@
+pub mod ListedLemmas
+pub mod MakesLemmas
+pub mod NameLemmas
+pub mod PlaceLemmas
+pub mod DrawLemmas
+pub mod ArtefactLemmas
+pub mod ReferenceLemmas
+pub mod PhraseLemmas
+pub mod MeasureLemmas
+pub mod PlacedLemmas
+pub mod SessionLemmas
+pub mod JobLemmas
+pub mod WorkedJob
