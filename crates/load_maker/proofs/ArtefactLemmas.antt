@@ -1,5 +1,5 @@
 -- The artefacts of a made job: no two of one place and name, and each that is named is there.
-use Rattle.std.proofs.Common.{◌≡◌, ◌<◌, ◌≤◌, ◌+◌, ◌*◌, ◌/◌, ◌%◌, ◌&&◌, ℕ, zero, suc, Bool, true, false, cond, List, [], ◌∷◌, ◌++◌, Option, None, Some, IsSome, option_map, eqb, refl, sym, ap, ◌∙◌, subst, inl, inr, arith, add-one, length, Result, Ok, Err}
+use Rattle.std.proofs.Common.{◌≡◌, ◌<◌, ◌≤◌, ◌+◌, ◌*◌, ◌/◌, ◌%◌, ℕ, zero, suc, Bool, true, false, cond, List, [], ◌∷◌, ◌++◌, Option, None, Some, IsSome, option_map, refl, ap, ◌∙◌, subst, inl, inr, arith, add-one, length, Result, Ok, Err}
 use Rattle.std.proofs.lemmas.Bool.Decides.{eqb_tells}
 use Rattle.std.proofs.lemmas.List.{length-append}
 use Rattle.bench_trait.specs.declared.artefacts.Artefact.{Artefact}
@@ -8,7 +8,6 @@ use Rattle.bench_trait.specs.declared.artefacts.BookError.TheVariants.{Repeated}
 use Rattle.bench_trait.specs.Artefacts.{Adds, artefact_bytes, artefact_index, is_artefact}
 use Rattle.session_runs.specs.Schedule.{draw}
 use Rattle.load_maker.specs.Artefacts.{drawn_bytes, HasEachArtefact, made_artefacts, numbered_artefact}
-use Rattle.load_maker.specs.Made.{Made, made}
 use Rattle.load_maker.specs.Names.{asp_name, place_name}
 use Rattle.load_maker.proofs.NameLemmas.{asp_is, asps_same, back_holds, front_holds, if_not_true, place_is, places_same}
 

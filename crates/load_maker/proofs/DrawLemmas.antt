@@ -1,5 +1,5 @@
 -- What is drawn is below the count.
-use Rattle.std.proofs.Common.{◌≡◌, ◌<◌, ◌≤◌, ◌/◌, ◌%◌, ℕ, Bool, true, false, Option, None, Some, nat_eq, refl, arith, ne_eqb}
+use Rattle.std.proofs.Common.{◌<◌, ◌/◌, ◌%◌, ℕ, Bool, true, false, Option, None, Some, nat_eq, arith}
 use Rattle.session_runs.specs.Schedule.{draw, drawn_of, stirred}
 
 drawn_below : (b : Bool) (from : Option ℕ) → (drawn_of 8 b from).drawn < 8

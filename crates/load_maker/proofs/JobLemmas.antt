@@ -1,5 +1,5 @@
 -- The job as a whole, from what its parts are.
-use Rattle.std.proofs.Common.{◌≡◌, ℕ, List, Option, None, Some, refl, ◌∙◌, sym, subst, map, slice_get}
+use Rattle.std.proofs.Common.{◌≡◌, ℕ, List, Option, None, Some, refl}
 use Rattle.session_model.specs.Session.{Session}
 use Rattle.bench_trait.specs.declared.artefacts.Artefact.{Artefact}
 use Rattle.place_check.specs.declared.entry.PlaceEntry.{PlaceEntry}

@@ -1,10 +1,10 @@
 -- The evidence of made phrases stays within the limits.
-use Rattle.std.proofs.Common.{◌≡◌, ◌≤◌, ◌<◌, ◌+◌, ℕ, zero, suc, Bool, true, false, cond, List, [], ◌∷◌, ◌++◌, max, Option, None, Some, nat_lt, refl, ap, ◌∙◌, arith, le-ltb}
+use Rattle.std.proofs.Common.{◌≡◌, ◌≤◌, ◌+◌, ℕ, zero, suc, Bool, true, false, cond, List, [], ◌∷◌, ◌++◌, max, Option, None, Some, nat_lt, refl, arith, le-ltb}
 use Rattle.phrase_tree.specs.Term.{Term, Leaf, cpy, sig, hsh, nul, usm, kim, leaf, at, chain, seq, par}
 use Rattle.phrase_tree.specs.Numbering.{event_count}
 use Rattle.evidence_types.specs.declared.measure.Measure.{Measure}
 use Rattle.evidence_types.specs.declared.measure.Measure.TheVariants.{Weight, Nest}
-use Rattle.evidence_types.specs.Measure.{count_after, counts_from, first_past, IsLight, leaf_count, limit, of_answer, of_arm, of_digest, of_nonce, of_pair, over_by, StaysWithin}
+use Rattle.evidence_types.specs.Measure.{count_after, counts_from, first_past, IsLight, leaf_count, limit, of_answer, of_arm, of_digest, of_nonce, of_pair, StaysWithin}
 use Rattle.load_maker.proofs.PhraseLemmas.{IsWithin}
 
 -- the most that a phrase of a depth makes of evidence of a count

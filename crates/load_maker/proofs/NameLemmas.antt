@@ -1,5 +1,5 @@
 -- The names of a made job tell their numbers apart.
-use Rattle.std.proofs.Common.{◌≡◌, ◌+◌, ◌&&◌, ◌≢◌, ℕ, Bool, true, false, List, [], ◌∷◌, nat_eq, refl, arith, eqb-true, eq-eqb}
+use Rattle.std.proofs.Common.{◌≡◌, ◌+◌, ◌&&◌, ℕ, Bool, true, false, [], ◌∷◌, nat_eq, refl, arith, eqb-true, eq-eqb}
 use Rattle.std.specs.Cmp.Lexicographic.{pointwise}
 use Rattle.load_maker.specs.Names.{asp_name, place_name}
 

@@ -1,10 +1,10 @@
 -- Which phrases are made: those of a depth, with names of a made job alone.
-use Rattle.std.proofs.Common.{◌≡◌, ◌≤◌, ◌<◌, ◌+◌, ◌*◌, ◌||◌, ℕ, zero, suc, Bool, true, false, cond, List, max, Option, nat_eq, ◌-◌, ◌∙◌, ap, Result, IfOk, refl, arith, if◌then◌else◌}
+use Rattle.std.proofs.Common.{◌≡◌, ◌≤◌, ◌<◌, ◌+◌, ◌*◌, ◌||◌, ℕ, zero, suc, Bool, true, false, cond, List, Option, nat_eq, ◌-◌, ◌∙◌, ap, Result, IfOk, refl, arith, if◌then◌else◌}
 use Rattle.phrase_tree.specs.declared.measurement.Asp.{Asp}
 use Rattle.phrase_tree.specs.declared.memory.NoMemory.{NoMemory}
 use Rattle.phrase_tree.specs.declared.phrase.Phrase.{Phrase}
 use Rattle.phrase_tree.specs.declared.phrase.Split.{Split}
-use Rattle.phrase_tree.specs.Term.{Term, Leaf, cpy, sig, hsh, nul, usm, kim, leaf, at, chain, seq, par, is_branch, is_chain, term}
+use Rattle.phrase_tree.specs.Term.{Term, Leaf, sig, hsh, usm, kim, leaf, at, chain, seq, par, is_branch, is_chain, term}
 use Rattle.phrase_tree.specs.Numbering.{depth, event_count}
 use Rattle.session_runs.specs.Schedule.{Draw, draw}
 use Rattle.load_maker.specs.Made.{Made, made, Makes}

@@ -1,6 +1,5 @@
 -- The places of a made job: no two have one name, and each may do all.
-use Rattle.std.proofs.Common.{◌≡◌, ◌<◌, ℕ, Bool, true, false, List, length, Option, None, Some, Result, Err, refl, sym, ap, ◌∙◌, subst, arith}
-use Rattle.std.specs.Cmp.Lexicographic.{pointwise}
+use Rattle.std.proofs.Common.{◌≡◌, ◌<◌, ℕ, true, List, length, None, Some, Result, Err, refl, ap, ◌∙◌, subst, arith}
 use Rattle.phrase_tree.specs.Repeats.{AreDistinct}
 use Rattle.place_check.specs.declared.entry.PlaceEntry.{PlaceEntry}
 use Rattle.place_check.specs.declared.entry.PlacesError.{PlacesError}

@@ -1,14 +1,13 @@
 -- Made phrases break no rule of the places of a made job.
-use Rattle.std.proofs.Common.{◌≡◌, ◌<◌, ◌+◌, ℕ, zero, suc, Bool, true, List, [], ◌∷◌, ◌++◌, refl, ap, ◌∙◌, sym, subst, arith}
-use Rattle.phrase_tree.specs.declared.measurement.Asp.{Asp}
+use Rattle.std.proofs.Common.{◌≡◌, ◌<◌, ◌+◌, ℕ, zero, suc, List, [], ◌∷◌, ◌++◌, refl, sym, subst}
 use Rattle.phrase_tree.specs.declared.phrase.Split.{Split}
 use Rattle.phrase_tree.specs.Term.{Term, Leaf, cpy, sig, hsh, nul, usm, kim, leaf, at, chain, seq, par}
 use Rattle.phrase_tree.specs.Numbering.{event_count}
-use Rattle.phrase_tree.specs.Events.{Event, Kind, event, events_of, joins, leaf_kind, measures, measures_at, replies, requests, splits}
-use Rattle.place_check.specs.Rules.{broken_rules, faults_among, faults_at}
+use Rattle.phrase_tree.specs.Events.{Event, event, events_of, joins, leaf_kind, measures, measures_at, requests, splits}
+use Rattle.place_check.specs.Rules.{faults_among, faults_at}
 use Rattle.load_maker.specs.Names.{place_name, plain_asp}
 use Rattle.load_maker.specs.Places.{made_places}
-use Rattle.load_maker.proofs.PhraseLemmas.{IsPlaceName, IsPlainAsp, IsWithin, LeafIsWithin}
+use Rattle.load_maker.proofs.PhraseLemmas.{IsWithin, LeafIsWithin}
 use Rattle.load_maker.proofs.PlaceLemmas.{each_has_offer, each_is_place, each_may_ask, each_may_see}
 
 -- an event breaks no rule

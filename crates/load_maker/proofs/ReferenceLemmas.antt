@@ -1,5 +1,5 @@
 -- No two references of a made job are for one measurement.
-use Rattle.std.proofs.Common.{◌≡◌, ◌<◌, ◌-◌, ◌/◌, ◌%◌, ◌&&◌, ℕ, Bool, true, false, cond, List, [], nat_eq, nat_lt, refl, sym, ap, ◌∙◌, inl, inr, length, Option, None, Some, Result, Err, subst, arith, ltb-false}
+use Rattle.std.proofs.Common.{◌≡◌, ◌-◌, ◌/◌, ◌%◌, ◌&&◌, ℕ, Bool, true, false, cond, List, nat_eq, nat_lt, refl, ap, length, None, Some, Result, Err, subst, arith, ltb-false}
 use Rattle.std.specs.Cmp.Lexicographic.{pointwise}
 use Rattle.phrase_tree.specs.Repeats.{AreDistinct}
 use Rattle.phrase_tree.specs.declared.measurement.Asp.{Asp}
@@ -11,7 +11,6 @@ use Rattle.reference_book.specs.declared.references.ReferencesError.{ReferencesE
 use Rattle.reference_book.specs.declared.references.ReferencesError.TheVariants.{Repeated}
 use Rattle.reference_book.specs.References.{is_for, IsKept, repeats, same_reference}
 use Rattle.reference_book.specs.Same.{same_asp, same_kind}
-use Rattle.load_maker.specs.Made.{listed}
 use Rattle.load_maker.specs.Names.{asp_name, place_name, plain_asp}
 use Rattle.load_maker.specs.References.{kim_reference, made_reference, made_references, usm_reference}
 use Rattle.load_maker.proofs.ListedLemmas.{listed_length, never_repeats}

@@ -1,12 +1,12 @@
 -- The sessions of a made job can be run: they are sized, light, and break no rule of the places.
-use Rattle.std.proofs.Common.{◌≡◌, ◌≤◌, ◌<◌, ◌+◌, ◌%◌, ℕ, zero, suc, Bool, true, List, [], ◌∷◌, ◌++◌, map, slice_get, Option, None, Some, Result, Err, refl, sym, ap, subst, arith, add-one}
+use Rattle.std.proofs.Common.{◌≡◌, ◌≤◌, ◌<◌, ◌+◌, ◌%◌, ℕ, zero, suc, true, List, [], ◌∷◌, ◌++◌, map, slice_get, Option, None, Some, Result, Err, refl, sym, ap, subst, arith, add-one}
 use Rattle.std.specs.List.{AllByRecursion}
-use Rattle.phrase_tree.specs.Term.{Term, is_branch, par, term}
+use Rattle.phrase_tree.specs.Term.{Term, is_branch, term}
 use Rattle.phrase_tree.specs.Numbering.{IsSized}
 use Rattle.phrase_tree.specs.Events.{events_of}
 use Rattle.evidence_types.specs.declared.measure.Measure.{Measure}
 use Rattle.evidence_types.specs.declared.measure.Measure.TheVariants.{Weight, Nest}
-use Rattle.evidence_types.specs.Measure.{count_after, IsLight, oversize_at, limit, of_nonce, of_pair, StaysWithin}
+use Rattle.evidence_types.specs.Measure.{count_after, IsLight, oversize_at, limit, of_nonce, StaysWithin}
 use Rattle.session_model.specs.Session.{Session}
 use Rattle.place_check.specs.declared.entry.PlaceEntry.{PlaceEntry}
 use Rattle.place_check.specs.declared.entry.PlaceFault.{PlaceFault}
@@ -14,7 +14,6 @@ use Rattle.place_check.specs.declared.entry.PlaceFault.TheVariants.{Misplaced, O
 use Rattle.place_check.specs.Checks.{Checks}
 use Rattle.place_check.specs.Rules.{faults, first}
 use Rattle.place_check.specs.Session.{CheckedSession, IsBounded, IsCheckedAgainst, session_of}
-use Rattle.load_maker.specs.Made.{Made, made}
 use Rattle.load_maker.specs.Names.{place_name}
 use Rattle.load_maker.specs.Phrases.{drawn_phrase, signs}
 use Rattle.load_maker.specs.Places.{made_places}

@@ -1,5 +1,5 @@
 -- Each byte is drawn behind the one before.
-use Rattle.std.proofs.Common.{◌≡◌, ◌++◌, ◌∷◌, [], List, ℕ, ap, ◌∙◌, arith}
+use Rattle.std.proofs.Common.{◌≡◌, ◌++◌, ◌∷◌, [], ℕ, ap, ◌∙◌, arith}
 use Rattle.load_maker.specs.Artefacts.{drawn_bytes}
 use Rattle.load_maker.proofs.ArtefactLemmas.{bytes_more, bytes_none}
 use Rattle.load_maker.proofs.artefacts.drawn_bytes.Goals as goal

@@ -1,5 +1,5 @@
 -- The bytes so far, and what is drawn from next.
-use Rattle.std.proofs.Common.{◌≡◌, ◌+◌, ◌*◌, map}
+use Rattle.std.proofs.Common.{◌≡◌}
 use Rattle.load_maker.specs.Artefacts.{drawn_bytes}
 use Rattle.load_maker.proofs.artefacts.drawn_bytes.Given as goal
 

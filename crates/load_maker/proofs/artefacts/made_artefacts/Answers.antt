@@ -1,5 +1,5 @@
 -- Each artefact is new, and the next of those that are made.
-use Rattle.std.proofs.Common.{◌≡◌, ◌++◌, ◌∷◌, [], List, ℕ, length, sym, ap, ◌∙◌, subst, arith}
+use Rattle.std.proofs.Common.{◌≡◌, ◌++◌, ◌∷◌, [], length, sym, ap, ◌∙◌, subst, arith}
 use Rattle.bench_trait.specs.declared.artefacts.Artefact.{Artefact}
 use Rattle.load_maker.specs.Artefacts.{drawn_bytes, HasEachArtefact, made_artefacts}
 use Rattle.load_maker.proofs.ArtefactLemmas.{artefacts_length, artefacts_more, artefacts_none, each_artefact, never_added, numbered, was_added}

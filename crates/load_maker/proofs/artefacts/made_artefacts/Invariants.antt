@@ -1,5 +1,5 @@
 -- The artefacts so far, and what is drawn from next.
-use Rattle.std.proofs.Common.{◌≡◌, ◌+◌, ◌*◌, map}
+use Rattle.std.proofs.Common.{◌≡◌}
 use Rattle.load_maker.specs.Artefacts.{made_artefacts}
 use Rattle.load_maker.proofs.artefacts.made_artefacts.Given as goal
 

@@ -1,5 +1,5 @@
 -- The parts are those of the job.
-use Rattle.std.proofs.Common.{◌≡◌, ◌∙◌, ap, sym, subst, map, Some}
+use Rattle.std.proofs.Common.{◌∙◌, ap, sym, subst, map}
 use Rattle.phrase_tree.specs.Term.{term}
 use Rattle.place_check.specs.Session.{IsBounded, IsCheckedAgainst, session_of}
 use Rattle.load_maker.specs.Artefacts.{made_artefacts}

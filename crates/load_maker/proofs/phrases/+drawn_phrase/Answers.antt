@@ -1,6 +1,6 @@
 -- Each form is made of its parts, in their order.
-use Rattle.std.proofs.Common.{◌≡◌, ◌-◌, ℕ, Option, sym, ◌∙◌, subst, arith}
-use Rattle.phrase_tree.specs.Term.{term, leaf, at, chain, seq, par, sig, hsh}
+use Rattle.std.proofs.Common.{◌≡◌, ◌-◌, sym, ◌∙◌, subst, arith}
+use Rattle.phrase_tree.specs.Term.{term}
 use Rattle.session_runs.specs.Schedule.{draw}
 use Rattle.load_maker.specs.Made.{Makes}
 use Rattle.load_maker.specs.Phrases.{drawn_phrase}

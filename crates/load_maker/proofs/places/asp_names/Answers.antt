@@ -1,5 +1,5 @@
 -- Each name is one of the eight.
-use Rattle.std.proofs.Common.{◌≡◌, ◌++◌, ◌∷◌, [], List, ℕ, ap, ◌∙◌}
+use Rattle.std.proofs.Common.{◌++◌, ◌∷◌, [], List, ℕ, ap, ◌∙◌}
 use Rattle.load_maker.specs.Made.{listed}
 use Rattle.load_maker.specs.Names.{asp_name}
 use Rattle.load_maker.proofs.ListedLemmas.{listed_more, listed_none}

@@ -1,5 +1,5 @@
 -- The names so far.
-use Rattle.std.proofs.Common.{◌≡◌, ◌+◌, ◌*◌, map}
+use Rattle.std.proofs.Common.{◌≡◌}
 use Rattle.load_maker.specs.Made.{listed}
 use Rattle.load_maker.specs.Names.{asp_name}
 use Rattle.load_maker.proofs.places.asp_names.Given as goal

@@ -1,5 +1,5 @@
 -- Each byte is one of the key, which is long enough.
-use Rattle.std.proofs.Common.{◌≡◌, ◌+◌, ◌*◌, ◌++◌, ◌∷◌, [], List, ℕ, length, ap, ◌∙◌, arith}
+use Rattle.std.proofs.Common.{◌≡◌, ◌+◌, ◌*◌, ◌++◌, ◌∷◌, [], length, ap, ◌∙◌, arith}
 use Rattle.load_maker.specs.Made.{listed}
 use Rattle.load_maker.specs.Places.{key_bytes}
 use Rattle.load_maker.proofs.ListedLemmas.{listed_length, listed_more, listed_none}

@@ -1,5 +1,5 @@
 -- The bytes so far.
-use Rattle.std.proofs.Common.{◌≡◌, ◌+◌, ◌*◌, map}
+use Rattle.std.proofs.Common.{◌≡◌, ◌+◌, ◌*◌}
 use Rattle.load_maker.specs.Made.{listed}
 use Rattle.load_maker.proofs.places.key_bytes.Given as goal
 

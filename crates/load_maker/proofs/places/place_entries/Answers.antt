@@ -1,5 +1,5 @@
 -- Each is one of the eight.
-use Rattle.std.proofs.Common.{◌≡◌, ◌++◌, ◌∷◌, [], List, ℕ, ap, ◌∙◌, arith}
+use Rattle.std.proofs.Common.{◌≡◌, ◌++◌, ◌∷◌, [], ap, ◌∙◌, arith}
 use Rattle.place_check.specs.declared.entry.PlaceEntry.{PlaceEntry}
 use Rattle.load_maker.specs.Made.{listed}
 use Rattle.load_maker.specs.Places.{made_places, place_entry}

@@ -1,5 +1,5 @@
 -- The places so far.
-use Rattle.std.proofs.Common.{◌≡◌, ◌+◌, ◌*◌, map}
+use Rattle.std.proofs.Common.{◌≡◌}
 use Rattle.load_maker.specs.Made.{listed}
 use Rattle.load_maker.specs.Places.{place_entry}
 use Rattle.load_maker.proofs.places.place_entries.Given as goal

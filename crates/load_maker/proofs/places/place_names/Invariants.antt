@@ -1,5 +1,5 @@
 -- The names so far.
-use Rattle.std.proofs.Common.{◌≡◌, ◌+◌, ◌*◌, map}
+use Rattle.std.proofs.Common.{◌≡◌}
 use Rattle.load_maker.specs.Made.{listed}
 use Rattle.load_maker.specs.Names.{place_name}
 use Rattle.load_maker.proofs.places.place_names.Given as goal

@@ -1,5 +1,5 @@
 -- Each is the reference of its number.
-use Rattle.std.proofs.Common.{◌≡◌, ◌++◌, ◌∷◌, [], List, ℕ, ap, ◌∙◌, arith}
+use Rattle.std.proofs.Common.{◌≡◌, ◌++◌, ◌∷◌, [], ap, ◌∙◌, arith}
 use Rattle.reference_book.specs.declared.reference.Reference.{Reference}
 use Rattle.load_maker.specs.Made.{listed}
 use Rattle.load_maker.specs.References.{made_reference, made_references}

@@ -1,5 +1,5 @@
 -- The references so far.
-use Rattle.std.proofs.Common.{◌≡◌, ◌+◌, ◌*◌, map}
+use Rattle.std.proofs.Common.{◌≡◌}
 use Rattle.load_maker.specs.Made.{listed}
 use Rattle.load_maker.specs.References.{made_reference}
 use Rattle.load_maker.proofs.references.made_entries.Given as goal

@@ -1,5 +1,5 @@
 -- The session can be run, and is that of its index.
-use Rattle.std.proofs.Common.{◌≡◌, ◌%◌, ap, ◌∙◌, arith}
+use Rattle.std.proofs.Common.{◌%◌, ap, ◌∙◌, arith}
 use Rattle.phrase_tree.specs.Term.{term}
 use Rattle.place_check.specs.Places.{is_place}
 use Rattle.load_maker.specs.Places.{made_places}

@@ -1,5 +1,5 @@
 -- Each session is drawn behind the one before.
-use Rattle.std.proofs.Common.{◌≡◌, ◌++◌, ◌∷◌, [], List, map, ap, ◌∙◌}
+use Rattle.std.proofs.Common.{◌++◌, ◌∷◌, [], List, map, ap, ◌∙◌}
 use Rattle.session_model.specs.Session.{Session}
 use Rattle.place_check.specs.Session.{CheckedSession, session_of}
 use Rattle.load_maker.proofs.SessionLemmas.{map_more, sessions_more, sessions_none}

@@ -1,5 +1,5 @@
 -- The sessions so far, and what is drawn from next.
-use Rattle.std.proofs.Common.{◌≡◌, ◌+◌, ◌*◌, map}
+use Rattle.std.proofs.Common.{◌≡◌, map}
 use Rattle.place_check.specs.Session.{session_of}
 use Rattle.load_maker.specs.Sessions.{made_sessions}
 use Rattle.load_maker.proofs.sessions.made_sessions.Given as goal
