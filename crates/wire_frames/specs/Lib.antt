@@ -1,0 +1,4 @@
+pub mod Frames
+pub mod Standing
+pub mod Reading
+pub mod Front
