@@ -40,6 +40,10 @@ all_set P [] i x h p = h
 all_set P (y ∷ ys) zero x h p = (p, h.1)
 all_set P (y ∷ ys) (suc i) x h p = (h.0, all_set P ys i x h.1 p)
 
+pub there : {A : Type 0} (before after : List A) (x : A) → slice_get (before ++ x ∷ after) (length before) ≡ Some x
+there [] after x = refl
+there (y ∷ before) after x = there before after x
+
 pub set_there : {A : Type 0} (xs : List A) (i : ℕ) (x y : A) → slice_get xs i ≡ Some x → slice_get (set xs i y) i ≡ Some y
 set_there [] i x y e = absurd (none-some x e)
 set_there (z ∷ zs) zero x y e = refl
@@ -163,7 +167,7 @@ pub all_more : {A : Type 0} (P : A → Type 0) (xs : List A) (x : A) → AllByRe
 all_more P [] x h p = (p, tt)
 all_more P (y ∷ ys) x h p = (h.0, all_more P ys x h.1 p)
 
-only_more : (places : List (List ℕ)) (those : List Session) (one : Session) → AskOnly places those → AsksOnly places one.phrase → AskOnly places (those ++ one ∷ [])
+pub only_more : (places : List (List ℕ)) (those : List Session) (one : Session) → AskOnly places those → AsksOnly places one.phrase → AskOnly places (those ++ one ∷ [])
 only_more places [] one h a = (a, tt)
 only_more places (first ∷ rest) one h a = (h.0, only_more places rest one h.1 a)
 
@@ -171,14 +175,14 @@ opened_more : (those : List Session) (one : Session) → all_opened (those ++ on
 opened_more [] one = refl
 opened_more (first ∷ rest) one = ap (λ xs. just_opened first ∷ xs) (opened_more rest one)
 
-records_more : (all : List Walked) (records : List Record) (walked : Walked) (found : Record) → AreRecordsOf all records → record_in walked ≡ Some found → AreRecordsOf (all ++ walked ∷ []) (records ++ found ∷ [])
+pub records_more : (all : List Walked) (records : List Record) (walked : Walked) (found : Record) → AreRecordsOf all records → record_in walked ≡ Some found → AreRecordsOf (all ++ walked ∷ []) (records ++ found ∷ [])
 records_more [] [] walked found h e = (e, tt)
 records_more [] (first ∷ records) walked found h e = absurd h
 records_more (first ∷ all) [] walked found h e = absurd h
 records_more (first ∷ all) (one ∷ records) walked found h e = (h.0, records_more all records walked found h.1 e)
 
 module _ {B : Type 0} (places : List PlaceEntry) (artefacts : List Artefact) (bench : B) where
-  opened_is : (one : CheckedSession) (seen : Seen (Opened B)) → IsJustOpened one places artefacts bench seen → walked_in seen ≡ just_opened (session_of one)
+  pub opened_is : (one : CheckedSession) (seen : Seen (Opened B)) → IsJustOpened one places artefacts bench seen → walked_in seen ≡ just_opened (session_of one)
   opened_is one seen just =
       ap (λ items. walked_by (session_in seen.opening) (keys_in seen.opening) (opened ∷ map entry_of items)) just.items
       ∙ ap (λ c. just_opened (session_of c)) just.of_checked

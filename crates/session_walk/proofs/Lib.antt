@@ -6,3 +6,4 @@ pub mod RecordLemmas
 pub mod FixedLemmas
 pub mod PlayingLemmas
 pub mod JobLemmas
+pub mod TurnLemmas

@@ -4,3 +4,4 @@ pub mod UnderWay
 pub mod Records
 pub mod Fixed
 pub mod Sessions
+pub mod Turns

@@ -12,6 +12,7 @@ mod records;
 mod rounds;
 #[cfg(test)]
 mod tests;
+mod turns;
 mod walk;
 #[cfg(test)]
 mod walk_tests;

@@ -15,6 +15,7 @@ ghost use Rattle.session_walk.specs.Sessions.{AreAllOpened, walked_in};
 use crate::laws::walk_law;
 use crate::records::records_law;
 use crate::rounds::play_out;
+use crate::turns::walk_in_turn;
 use bench_trait::{ArtefactBook, Bench};
 use checked_sessions::checked_session_asks_places;
 use phrase_tree::NoMemory;
@@ -44,7 +45,7 @@ fn open_all<'a, B: Bench>(
 }
 
 /// The record of a session that is done or failed.
-fn record_of<B: Bench>(session: &Session<'_, B>) -> Result<Record, NoMemory>
+pub(crate) fn record_of<B: Bench>(session: &Session<'_, B>) -> Result<Record, NoMemory>
     requires { (found : Meant) × (record_in (walked_in session.now) ≡ Some found) }
     ensures { IfOk result (λ found. record_in (walked_in session.now) ≡ Some (recorded found)) }
 {
@@ -73,8 +74,36 @@ fn records_of<B: Bench>(
 }
 
 /// Opens the sessions of a job and plays them to their end on one thread, by the schedule of a number:
-/// one record of each, in their order. An error is that a session starved, or want of memory.
+/// one record of each, in their order. An error is that a session starved, or want of memory. By the
+/// schedule of 0 no more than one session is open at a time.
 pub fn walk_sessions<B: Bench>(
+    alloc: Global,
+    checked: &[Checked],
+    places: &Places,
+    artefacts: &ArtefactBook,
+    bench: &B,
+    number: u32,
+) -> Result<Vec<Record>, NoMemory>
+    requires few { length checked.now < 2 ^ 32 }
+    requires checked { (index : ℕ) (one : CheckedSession) → slice_get checked.now index ≡ Some one → IsCheckedAgainst (session_of one) places.now }
+    ensures { IfOk result (λ records. AreOfWalk
+        (B.gives bench.now artefacts.now)
+        (B.fails bench.now artefacts.now)
+        (B.starves bench.now artefacts.now)
+        (place_names places.now)
+        (keys_of places.now)
+        (map session_of checked.now)
+        number
+        (map recorded records.items)) }
+{
+    if number == 0 {
+        return walk_in_turn(alloc, checked, places, artefacts, bench);
+    }
+    walk_together(alloc, checked, places, artefacts, bench, number)
+}
+
+/// The same, where all sessions are opened first.
+fn walk_together<B: Bench>(
     alloc: Global,
     checked: &[Checked],
     places: &Places,
