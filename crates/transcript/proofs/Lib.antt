@@ -1,0 +1,6 @@
+pub mod FieldLemmas
+pub mod EntryLemmas
+pub mod LawLemmas
+pub mod NameLemmas
+pub mod ReadingLemmas
+pub mod WritingLemmas

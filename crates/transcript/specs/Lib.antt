@@ -1,0 +1,4 @@
+pub mod Bytes
+pub mod Starved
+pub mod Reading
+pub mod Written

@@ -1,0 +1,17 @@
+//! The transcript of a session: its history as bytes, one spelling for each history.
+//!
+//! `write_transcript` writes it. Which bytes are the transcript of which history is `IsTranscriptOf` of
+//! `specs/Bytes.antt`; what reading from the left gives, and which fault is the first, is `read_transcript`
+//! of `specs/Reading.antt`, and a law says that they agree. The format is this project's own.
+#![tactic(auto)]
+
+mod fault;
+mod fields;
+mod laws;
+mod reading;
+mod writing;
+mod written;
+
+pub use fault::{Stop, TranscriptKind};
+pub use laws::{one_spelling, starved_has_none, transcript_or_fault};
+pub use writing::{TranscriptError, write_transcript};
