@@ -14,7 +14,7 @@ elif command -v man >/dev/null 2>&1; then
   said+=('man finds no fault in the manual page')
 fi
 if command -v shellcheck >/dev/null 2>&1; then
-  shellcheck -x -P SCRIPTDIR cerealspit .ci/run checks/*.sh checks/*.bash || faults=$((faults + 1))
+  shellcheck -x -P SCRIPTDIR cerealspit .ci/run checks/*.sh checks/*.bash checks-long/run checks-long/*.sh || faults=$((faults + 1))
   said+=('shellcheck finds no fault in the scripts')
 fi
 ends pages "$(printf '%s; ' "${said[@]}")skipped what has no tool here"
