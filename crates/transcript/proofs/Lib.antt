@@ -1,3 +1,4 @@
+mod WorkedRows
 pub mod FieldLemmas
 pub mod EntryLemmas
 pub mod LawLemmas
