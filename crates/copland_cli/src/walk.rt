@@ -8,11 +8,10 @@ ghost use Rattle.session_model.specs.Recorded.{recorded};
 ghost use Rattle.copland_cli.specs.Recorded.{done_with, failed_at};
 
 use bench_trait::{ArtefactBook, Bench, BenchFault};
-use evidence_codec::encode;
 use evidence_types::Answers;
 use phrase_tree::{NoMemory, Trace};
 use place_check::Checked;
-use plain_eval::{Gathered, eval, gather, rising_records_are_right};
+use plain_eval::{Gathered, eval_bundle, gather, rising_records_are_right};
 use seal_hmac::KeyRing;
 use session_model::{DoneRecord, FailRecord, Record};
 use std::alloc::Global;
@@ -77,7 +76,7 @@ fn done(
     ensures { IfOk result (λ record'. recorded record' ≡ done_with (session_of checked.now) keys.now answers) }
 {
     let phrase = checked.phrase();
-    let value = eval(
+    let bundle = eval_bundle(
         alloc,
         phrase,
         checked.root(),
@@ -85,7 +84,6 @@ fn done(
         &answers,
         keys,
     )?;
-    let bundle = encode(alloc, &value)?;
     let trace = rising(alloc, phrase.events())?;
     Ok(Record::Done(DoneRecord {
         trace,

@@ -2,6 +2,10 @@ pub mod KeyLemmas
 pub mod GatherLemmas
 pub mod AnswerLemmas
 pub mod BundleLemmas
+pub mod CodeLemmas
+pub mod StepLemmas
+pub mod LeadLemmas
+pub mod EndLemmas
 pub mod FixedLemmas
 pub mod RightLemmas
 mod WorkedRecords

@@ -1,4 +1,9 @@
 pub mod Keyed
+pub mod AllShort
+pub mod Codes
+pub mod Given
+pub mod Steps
+pub mod Pending
 pub mod Evaluating
 pub mod Gathering
 pub mod Walking

@@ -2,7 +2,7 @@ ghost use Rattle.std.specs.Prelude.{◌≡◌, ◌+◌, ◌^◌, ◌<◌, IfOk, 
 ghost use Rattle.phrase_tree.specs.Term.{term};
 ghost use Rattle.phrase_tree.specs.Numbering.{event_count, IsSized};
 ghost use Rattle.evidence_types.specs.Answer.{FitsAnswer};
-ghost use Rattle.evidence_types.specs.Answers.{IsRising, answer_at};
+ghost use Rattle.evidence_types.specs.Answers.{answer_at};
 ghost use Rattle.evidence_types.specs.Bytes.{FitsBundle, encoding};
 ghost use Rattle.evidence_types.specs.Evidence.{evidence, usm as measured, kim as measured_at, seal, hash};
 ghost use Rattle.evidence_types.specs.Measure.{IsLight};
@@ -13,6 +13,7 @@ ghost use Rattle.plain_eval.specs.Keyed.{HasKeys};
 ghost use Rattle.session_model.specs.Short.{HasShortAnswers};
 ghost use Rattle.plain_eval.specs.Evaluating.{makings};
 
+use crate::answering::answer_of;
 use crate::copying::copy;
 use crate::digesting::{hash_over, seal_over};
 use crate::nodes;
@@ -34,27 +35,6 @@ struct Materials<'a> {
 struct Made {
     value: Box<Value>,
     next: u32,
-}
-
-/// The answer of an event; an empty one if there is none. It is found by binary search, since the
-/// events rise.
-#[tactic(auto, using(crate::proofs::AnswerLemmas::rising_take, crate::proofs::AnswerLemmas::rising_drop, crate::proofs::AnswerLemmas::fewer))]
-fn answer_of(pairs: &[(u32, Answer)], event: u32) -> Answer
-    requires { IsRising pairs.now }
-    ensures answer { result ≡ answer_at pairs.now event }
-    ensures few { FitsAnswer result }
-{
-    let middle = pairs.len() / 2;
-    let Some(pair) = pairs.get(middle) else {
-        return copied(&[]);
-    };
-    if pair.0 == event {
-        return copied(pair.1.bytes());
-    }
-    if event < pair.0 {
-        return answer_of(&pairs[..middle], event);
-    }
-    answer_of(&pairs[middle + 1..], event)
 }
 
 /// An answer with these bytes.
@@ -130,7 +110,7 @@ fn usm(
     ensures value { IfOk result (λ made. evidence made.value ≡ measured event (answer_at from.now.answers.now event) (evidence before.value)) }
     ensures short { FitsAnswer (answer_at from.now.answers.now event) }
 {
-    let answer = answer_of(from.answers.items(), event);
+    let answer = copied(answer_of(from.answers.items(), event));
     nodes::usm(alloc, event, &answer, before)
 }
 
@@ -143,7 +123,7 @@ fn kim(
     ensures value { IfOk result (λ made. evidence made.value ≡ measured_at event (answer_at from.now.answers.now event) (evidence before.value)) }
     ensures short { FitsAnswer (answer_at from.now.answers.now event) }
 {
-    let answer = answer_of(from.answers.items(), event);
+    let answer = copied(answer_of(from.answers.items(), event));
     nodes::kim(alloc, event, &answer, before)
 }
 

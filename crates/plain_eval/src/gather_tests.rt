@@ -192,7 +192,38 @@ fn value_for(
     )
 }
 
-/// Checks the phrase at the bank, gathers its answers, and compares the hash of its value.
+/// The bundle of a checked session.
+fn bundle_for(
+    alloc: Global,
+    places: &Places,
+    checked: &Checked,
+    answers: &Answers,
+) -> Result<Bytes, NoMemory>
+    requires { IsCheckedAgainst (session_of checked.now) places.now }
+{
+    checked_session_has_keys(places, checked);
+    events_have_the_keys_of_seals();
+    let phrase = checked.phrase();
+    eval_bundle(
+        alloc,
+        phrase,
+        checked.root(),
+        checked.nonce(),
+        answers,
+        places.keys(),
+    )
+}
+
+/// Whether a bundle has its head, and a value of this hash.
+fn holds_value(bundle: &[u8], hash: &[u8; 32]) -> bool {
+    match bundle {
+        [67, 80, 76, 66, 1, _, _, _, _, value @ ..] => seal_hmac::hash(value) == *hash,
+        _ => false,
+    }
+}
+
+/// Checks the phrase at the bank, gathers its answers, and compares the hashes of its value and of the
+/// bytes in its bundle.
 fn expect_value(
     rt: &impl Abort,
     alloc: Global,
@@ -216,6 +247,8 @@ fn expect_value(
     };
     let value = value_for(alloc, &places, &checked, &answers)?;
     assert!(rt; hash_over(&value) == *hash);
+    let bundle = bundle_for(alloc, &places, &checked, &answers)?;
+    assert!(rt; holds_value(bundle.items(), hash));
     Ok(())
 }
 

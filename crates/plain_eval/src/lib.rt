@@ -1,10 +1,13 @@
 //! Sessions on one thread: `eval` is the value of a phrase for the answers that are given, by recursion
-//! over the phrase. It uses no store, no machine and no stack of its own, so it is what every other way
-//! to run a session is compared with.
+//! over the phrase, and `eval_bundle` the bundle of that value, made from its end to its front without the
+//! value. Neither uses a store or a machine, so they are what every other way to run a session is compared
+//! with.
 //!
 //! The value is `value_of` of the crate `session_model` (POST 2019, the evidence of a phrase).
 #![tactic(auto)]
 
+mod answering;
+mod bundling;
 mod copying;
 mod digesting;
 mod evaluating;
@@ -12,12 +15,18 @@ mod fixed;
 #[cfg(test)]
 mod gather_tests;
 mod gathering;
+mod given;
+mod keyed;
 mod laws;
+mod leaves;
 mod nodes;
+mod pending;
+mod putting;
 mod right;
 #[cfg(test)]
 mod tests;
 
+pub use bundling::eval_bundle;
 pub use evaluating::eval;
 pub use fixed::{
     digests_are_fixed, digests_make_one_record, done_where_artefacts_are_there,

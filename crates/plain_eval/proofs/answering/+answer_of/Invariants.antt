@@ -1,6 +1,6 @@
 -- Each half has fewer pairs.
 use Rattle.std.proofs.Common.{length}
-use Rattle.plain_eval.proofs.evaluating.+answer_of.Given as goal
+use Rattle.plain_eval.proofs.answering.+answer_of.Given as goal
 
 abbrev pub decreases-answer_of : goal.decreases-answer_of
 decreases-answer_of l = length l.pairs.now
