@@ -1,5 +1,5 @@
 -- Right records of a session over digests are alike.
-use Rattle.std.proofs.Common.{◌≡◌, ◌+◌, ◌∙◌, ◌++◌, ℕ, Bool, true, false, List, [], ◌∷◌, ap, refl, sym, subst}
+use Rattle.std.proofs.Common.{◌≡◌, ◌+◌, ◌∙◌, ◌++◌, ℕ, Bool, true, false, List, [], ◌∷◌, ap, refl, sym}
 use Rattle.std.specs.Prelude.{Some, ◌||◌}
 use Rattle.std.specs.List.{AllZip}
 use Rattle.bench_trait.specs.declared.artefacts.Artefact.{Artefact}
@@ -13,10 +13,10 @@ use Rattle.session_model.specs.Session.{Session, session_questions}
 use Rattle.session_model.specs.Value.{session_value}
 use Rattle.session_walk.specs.Records.{AreRightRecords}
 use Rattle.job_reader.specs.Finding.{JobView}
-use Rattle.report_text.specs.Records.{records_text, value_text, values_text}
+use Rattle.report_text.specs.Records.{records_text, value_text}
 use Rattle.report_text.specs.Sessions.{numbered}
 use Rattle.copland_cli.specs.Alike.{AreAlike, DifferInTraces}
-use Rattle.copland_cli.specs.Attested.{AreAttestations, IsAttestation, IsOfAttestations}
+use Rattle.copland_cli.specs.Attested.{IsAttestation, IsOfAttestations}
 use Rattle.copland_cli.specs.Digests.{DigestFails, DigestGives, IsDoneWhereThere}
 use Rattle.copland_cli.specs.Meaning.{IsOfWalkIn}
 use Rattle.copland_cli.specs.Reported.{Failing, Giving, Starving, ending_of, some_failed}

@@ -56,6 +56,7 @@ refusal_cause Decided sink refusals.ReadFault status never is h = moved Decided 
 refusal_cause Decided sink refusals.TooLong status never is h = moved Decided sink statuses.TooLong status is h
 refusal_cause Decided sink (refusals.Job error) status never is h = job_cause Decided sink error status never is h
 refusal_cause Decided sink (refusals.NoReference event) status never is h = moved Decided sink statuses.NoReference status is (event, h)
+refusal_cause Decided sink (refusals.Ambiguous event) status never is h = moved Decided sink statuses.Ambiguous status is (event, h)
 refusal_cause Decided sink (refusals.BadBundle at kind) status never is h = moved Decided sink statuses.BadBundle status is (inl (at, kind, h))
 refusal_cause Decided sink (refusals.BadShape node) status never is h = moved Decided sink statuses.BadBundle status is (inr (node, h))
 refusal_cause Decided sink refusals.NoMemory status never is h = moved Decided sink statuses.NoMemory status is h
@@ -165,6 +166,7 @@ exact_unreadable Gives Fails Starves command need source sink refusals.TooLong s
 exact_unreadable Gives Fails Starves command need source sink (refusals.Job error) status finding bytes told short is calm at h =
     comes_so Gives Fails Starves command sink (refused error) finding status (same_finding need source bytes finding (refused error) told is h) at
 exact_unreadable Gives Fails Starves command need source sink (refusals.NoReference event) status finding bytes told short is calm at h = absurd h
+exact_unreadable Gives Fails Starves command need source sink (refusals.Ambiguous event) status finding bytes told short is calm at h = absurd h
 exact_unreadable Gives Fails Starves command need source sink (refusals.BadBundle place kind) status finding bytes told short is calm at h = absurd h
 exact_unreadable Gives Fails Starves command need source sink (refusals.BadShape node) status finding bytes told short is calm at h = absurd h
 exact_unreadable Gives Fails Starves command need source sink refusals.NoMemory status finding bytes told short is calm at h = absurd (calm.memory at)
@@ -208,6 +210,7 @@ long_unreadable need source left refusals.ReadFault status told long at h = absu
 long_unreadable need source left refusals.TooLong status told long at h = at
 long_unreadable need source left (refusals.Job error) status told long at h = absurd (not_both source left h.0 told long h.1.given h.1.short)
 long_unreadable need source left (refusals.NoReference event) status told long at h = absurd h
+long_unreadable need source left (refusals.Ambiguous event) status told long at h = absurd h
 long_unreadable need source left (refusals.BadBundle place kind) status told long at h = absurd h
 long_unreadable need source left (refusals.BadShape node) status told long at h = absurd h
 long_unreadable need source left refusals.NoMemory status told long at h = absurd (not_both source left h.0 told long h.1 h.2)

@@ -1,5 +1,5 @@
 -- From what the workers' last pass has seen to one record of each session of the job.
-use Rattle.std.proofs.Common.{◌≡◌, ◌+◌, ◌∙◌, ℕ, zero, suc, List, [], ◌∷◌, ◌++◌, ◌<◌, length, get_or, ap, refl, sym, subst, arith}
+use Rattle.std.proofs.Common.{◌≡◌, ◌∙◌, ℕ, zero, suc, List, [], ◌∷◌, ◌++◌, ◌<◌, length, get_or, ap, refl, sym, subst, arith}
 use Rattle.std.specs.Prelude.{All, Option, Some, map, slice_get}
 use Rattle.atomic_table.specs.Seated.{TableId}
 use Rattle.std.specs.List.{AllZip}

@@ -26,7 +26,8 @@ use Rattle.copland_cli.specs.Meaning.{IsOfRecordsIn, IsOfWalkIn, IsReport}
 use Rattle.copland_cli.specs.Reported.{AreRecords, Failing, Giving, Starving, SaysOfEach, aspect_text, ending_of, some_failed}
 use Rattle.copland_cli.specs.declared.ending.Ending.{Ending}
 use Rattle.copland_cli.specs.declared.session.Aspect.TheVariants as aspects
-use Rattle.copland_cli.specs.Command.{Command, Check, Shape, Events, Code, Eval, Walk, Order, Choose, Attest, Appraise, Load}
+use Rattle.copland_cli.specs.Command.{Command, Check, Shape, Events, Code, Eval, Walk, Order, Choose, Attest, Appraise, Upgrade, Load}
+use Rattle.copland_cli.proofs.AppraiseLemmas.{same_upgrade, same_verdicts}
 
 -- a session has one rising record
 abbrev pub HasOneRecord : Giving → Failing → Type 0
@@ -109,7 +110,8 @@ on_one_job Gives Fails Starves law walks laws (Walk number) job text other endin
 on_one_job Gives Fails Starves law walks laws (Order claims) job text other ending ended plain h k = same_of_claims laws claims job.sessions text other ending ended h k
 on_one_job Gives Fails Starves law walks laws (Choose policy) job text other ending ended plain h k = same_of_choices laws policy job.sessions text other ending ended h k
 on_one_job Gives Fails Starves law walks laws (Attest workers) job text other ending ended plain h k = absurd plain
-on_one_job Gives Fails Starves law walks laws Appraise job text other ending ended plain h k = absurd h
+on_one_job Gives Fails Starves law walks laws Appraise job text other ending ended plain h k = same_verdicts job text other ending ended h k
+on_one_job Gives Fails Starves law walks laws Upgrade job text other ending ended plain h k = same_upgrade job text other ending ended h k
 on_one_job Gives Fails Starves law walks laws (Load number) job text other ending ended plain h k = absurd h
 
 -- two jobs that are one finding are one job

@@ -1,5 +1,8 @@
 pub mod WordLemmas
 pub mod PortLemmas
+pub mod FeedLemmas
+pub mod AppraiseLemmas
+pub mod OfferLemmas
 pub mod MeaningLemmas
 pub mod OutcomeLemmas
 pub mod RecordLemmas
@@ -7,6 +10,9 @@ pub mod AnswerLemmas
 pub mod OrderLemmas
 pub mod ChoiceLemmas
 pub mod HeadlineLemmas
+pub mod AcceptingLemmas
+pub mod UpgradeLemmas
+pub mod ReportLemmas
 pub mod FunctionLemmas
 pub mod DigestLemmas
 pub mod AttestLemmas

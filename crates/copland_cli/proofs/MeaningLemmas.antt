@@ -1,27 +1,46 @@
--- No command of today refuses a job after the job's own refusals.
+-- A command has one refusal of an accepted job at most, and never both it and a report.
+use Rattle.std.proofs.Common.{ℕ, List}
 use Rattle.job_reader.specs.Finding.{JobView}
-use Rattle.report_text.specs.declared.refusal.Refusal.{Refusal}
+use Rattle.copland_cli.specs.Appraised.{HasNoUpgrade, HasNoVerdicts, IsOfUpgrade, IsOfVerdicts}
 use Rattle.copland_cli.specs.Commands.{IsBuilt}
 use Rattle.copland_cli.specs.Meaning.{IsDecisive, IsReport, RefusesJob}
 use Rattle.copland_cli.specs.Reported.{Failing, Giving, Starving}
-use Rattle.copland_cli.specs.Command.{Command, Check, Shape, Events, Code, Eval, Walk, Order, Choose, Attest, Appraise, Load}
+use Rattle.copland_cli.specs.Command.{Command, Check, Shape, Events, Code, Eval, Walk, Order, Choose, Attest, Appraise, Upgrade, Load}
+use Rattle.copland_cli.specs.declared.ending.Ending.{Ending}
+use Rattle.copland_cli.proofs.AppraiseLemmas.{upgrade_late, upgrade_none, upgrade_one, verdicts_late, verdicts_none, verdicts_one}
 
-refuses_none : (Gives : Giving) (Fails : Failing) (command : Command) (job : JobView) (why : Refusal) → ¬ RefusesJob Gives Fails command job why
-refuses_none Gives Fails Check job why h = h
-refuses_none Gives Fails Shape job why h = h
-refuses_none Gives Fails Events job why h = h
-refuses_none Gives Fails Code job why h = h
-refuses_none Gives Fails Eval job why h = h
-refuses_none Gives Fails (Walk number) job why h = h
-refuses_none Gives Fails (Order text) job why h = h
-refuses_none Gives Fails (Choose text) job why h = h
-refuses_none Gives Fails (Attest workers) job why h = h
-refuses_none Gives Fails Appraise job why h = h
-refuses_none Gives Fails (Load number) job why h = h
+-- a command that refuses none
+none_refused : (Reports : List ℕ → Ending → Type 0) → IsDecisive (λ why. ⊥) Reports
+none_refused Reports = record {
+  late = λ why h. absurd h;
+  one_refusal = λ why other h k. absurd h;
+  not_both = λ why text ending h report. h;
+}
+
+of_verdicts : (job : JobView) → IsDecisive (HasNoVerdicts job) (IsOfVerdicts job)
+of_verdicts job = record {
+  late = verdicts_late job;
+  one_refusal = verdicts_one job;
+  not_both = λ why text ending h report. verdicts_none job report.offer why report.offered report.references report.found h;
+}
+
+of_upgrade : (job : JobView) → IsDecisive (HasNoUpgrade job) (IsOfUpgrade job)
+of_upgrade job = record {
+  late = upgrade_late job;
+  one_refusal = upgrade_one job;
+  not_both = λ why text ending h report. upgrade_none job report.offer why report.offered report.found h;
+}
 
 pub decisive : (Gives : Giving) (Fails : Failing) (Starves : Starving) (command : Command) (job : JobView) → IsBuilt command → IsDecisive (RefusesJob Gives Fails command job) (IsReport Gives Fails Starves command job)
-decisive Gives Fails Starves command job built = record {
-  late = λ why h. absurd (refuses_none Gives Fails command job why h);
-  one_refusal = λ why other h k. absurd (refuses_none Gives Fails command job why h);
-  not_both = λ why text ending h report. refuses_none Gives Fails command job why h;
-}
+decisive Gives Fails Starves Check job built = none_refused (IsReport Gives Fails Starves Check job)
+decisive Gives Fails Starves Shape job built = none_refused (IsReport Gives Fails Starves Shape job)
+decisive Gives Fails Starves Events job built = none_refused (IsReport Gives Fails Starves Events job)
+decisive Gives Fails Starves Code job built = none_refused (IsReport Gives Fails Starves Code job)
+decisive Gives Fails Starves Eval job built = none_refused (IsReport Gives Fails Starves Eval job)
+decisive Gives Fails Starves (Walk number) job built = none_refused (IsReport Gives Fails Starves (Walk number) job)
+decisive Gives Fails Starves (Order text) job built = none_refused (IsReport Gives Fails Starves (Order text) job)
+decisive Gives Fails Starves (Choose text) job built = none_refused (IsReport Gives Fails Starves (Choose text) job)
+decisive Gives Fails Starves (Attest workers) job built = none_refused (IsReport Gives Fails Starves (Attest workers) job)
+decisive Gives Fails Starves Appraise job built = of_verdicts job
+decisive Gives Fails Starves Upgrade job built = of_upgrade job
+decisive Gives Fails Starves (Load number) job built = absurd built

@@ -3,7 +3,7 @@ use Rattle.std.proofs.Common.{◌≡◌, ◌<◌, ◌^◌, ℕ, List, [], ◌∷
 use Rattle.std.specs.Prelude.{◌≢◌, codes, decimal, nat_eq, if◌then◌else◌, MatchOption, Option, None, Some}
 use lib.Pointwise.{pointwise}
 use Rattle.std.proofs.lemmas.Fmt.{decimal_injective}
-use Rattle.copland_cli.specs.Command.{Command, Check, Shape, Events, Code, Eval, Walk, Order, Choose, Attest, Appraise, Load}
+use Rattle.copland_cli.specs.Command.{Command, Check, Shape, Events, Code, Eval, Walk, Order, Choose, Attest, Appraise, Upgrade, Load}
 use Rattle.copland_cli.specs.Commands.{IsBuilt}
 use Rattle.copland_cli.specs.Words.{Spells}
 
@@ -19,6 +19,7 @@ data Kind : Type 0 where
   choose : Kind
   attest : Kind
   appraise : Kind
+  upgrade : Kind
   load : Kind
 
 abbrev kind_of : Command → Kind
@@ -32,6 +33,7 @@ kind_of (Order text) = order
 kind_of (Choose text) = choose
 kind_of (Attest workers) = attest
 kind_of Appraise = appraise
+kind_of Upgrade = upgrade
 kind_of (Load number) = load
 
 -- the number of a command that has one
@@ -46,6 +48,7 @@ number_of (Order text) = 0
 number_of (Choose text) = 0
 number_of (Attest workers) = workers
 number_of Appraise = 0
+number_of Upgrade = 0
 number_of (Load number) = number
 
 -- the last word of a command, where it has more than one; else a zero
@@ -60,6 +63,7 @@ last_of (Order text) = text
 last_of (Choose text) = text
 last_of (Attest workers) = decimal workers
 last_of Appraise = decimal 0
+last_of Upgrade = decimal 0
 last_of (Load number) = decimal number
 
 abbrev command_of : Kind → ℕ → List ℕ → Command
@@ -73,6 +77,7 @@ command_of order number text = Order text
 command_of choose number text = Choose text
 command_of attest number text = Attest number
 command_of appraise number text = Appraise
+command_of upgrade number text = Upgrade
 command_of load number text = Load number
 
 parts : (command : Command) → command_of (kind_of command) (number_of command) (last_of command) ≡ command
@@ -86,6 +91,7 @@ parts (Order text) = refl
 parts (Choose text) = refl
 parts (Attest workers) = refl
 parts Appraise = refl
+parts Upgrade = refl
 parts (Load number) = refl
 
 -- the number as a word, where the last word is that of a number
@@ -100,6 +106,7 @@ number_word order last = decimal 0
 number_word choose last = decimal 0
 number_word attest last = last
 number_word appraise last = last
+number_word upgrade last = last
 number_word load last = last
 
 number_is : (command : Command) → number_word (kind_of command) (last_of command) ≡ decimal (number_of command)
@@ -113,6 +120,7 @@ number_is (Order text) = refl
 number_is (Choose text) = refl
 number_is (Attest workers) = refl
 number_is Appraise = refl
+number_is Upgrade = refl
 number_is (Load number) = refl
 
 -- the kind that a first word names
@@ -128,6 +136,7 @@ kind_named word =
     else if pointwise nat_eq word (codes "choose") then Some choose
     else if pointwise nat_eq word (codes "attest") then Some attest
     else if pointwise nat_eq word (codes "appraise") then Some appraise
+    else if pointwise nat_eq word (codes "upgrade") then Some upgrade
     else if pointwise nat_eq word (codes "load") then Some load
     else None
 
@@ -159,6 +168,7 @@ tells words (Order text) h = record { kind = ap (λ w. kind_among w) h.0; last =
 tells words (Choose text) h = record { kind = ap (λ w. kind_among w) h.0; last = ap (λ w. last_among w) h.0; small = omega arith }
 tells words (Attest workers) h = record { kind = ap (λ w. kind_among w) h.0; last = ap (λ w. last_among w) h.0; small = omega (arith, h.2) }
 tells words Appraise h = record { kind = ap (λ w. kind_among w) h; last = ap (λ w. last_among w) h; small = omega arith }
+tells words Upgrade h = record { kind = ap (λ w. kind_among w) h; last = ap (λ w. last_among w) h; small = omega arith }
 tells words (Load number) h = record { kind = ap (λ w. kind_among w) h.0; last = ap (λ w. last_among w) h.0; small = h.1 }
 
 pub one_command : (words : List (List ℕ)) (one other : Command) → Spells words one → Spells words other → one ≡ other

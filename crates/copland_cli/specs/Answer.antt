@@ -27,7 +27,7 @@ use Rattle.copland_cli.specs.declared.outcome.Outcome.{Outcome}
 use Rattle.copland_cli.specs.declared.outcome.Report.{Report}
 use Rattle.copland_cli.specs.declared.outcome.Outcome.TheVariants.{Refused, Reported}
 use Rattle.copland_cli.specs.declared.status.Status.{Status}
-use Rattle.copland_cli.specs.declared.status.Status.TheVariants.{Good, SomeFailed, ClaimBroken, Denied, Rejected, BadWords, ReadFault, TooLong, NotJson, BadJob, RepeatedPlace, RepeatedArtefact, RepeatedReference, BadRoot, RepeatedNonce, BadPhrase, Misplaced, Oversize, NoReference, BadBundle, WriteFault, NoMemory, Unbuilt}
+use Rattle.copland_cli.specs.declared.status.Status.TheVariants.{Good, SomeFailed, ClaimBroken, Denied, Rejected, BadWords, ReadFault, TooLong, NotJson, BadJob, RepeatedPlace, RepeatedArtefact, RepeatedReference, BadRoot, RepeatedNonce, BadPhrase, Misplaced, Oversize, NoReference, Ambiguous, BadBundle, WriteFault, NoMemory, Unbuilt}
 
 -- some outcome, decided so and concluded so
 abbrev pub IsAnswer : (Outcome → Type 0) → Port → Status → Type 0
@@ -73,6 +73,7 @@ HasCause Decided sink Misplaced =
 HasCause Decided sink Oversize =
     (session : ℕ) × (event : ℕ) × RefusesWith Decided sink (refusals.Job (errors.Oversize session event))
 HasCause Decided sink NoReference = (event : ℕ) × RefusesWith Decided sink (refusals.NoReference event)
+HasCause Decided sink Ambiguous = (event : ℕ) × RefusesWith Decided sink (refusals.Ambiguous event)
 HasCause Decided sink BadBundle =
     ((at : ℕ) × (kind : BadKind) × RefusesWith Decided sink (refusals.BadBundle at kind))
     ⊎ ((node : ℕ) × RefusesWith Decided sink (refusals.BadShape node))

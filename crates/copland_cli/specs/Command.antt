@@ -18,6 +18,7 @@ pub data Command : Type 0 where
   -- the number of workers
   Attest : ℕ → Command
   Appraise : Command
+  Upgrade : Command
   -- the number of its job
   Load : ℕ → Command
 
@@ -33,4 +34,5 @@ command_view (code.Order text) = Order text.now
 command_view (code.Choose text) = Choose text.now
 command_view (code.Attest workers) = Attest workers
 command_view code.Appraise = Appraise
+command_view code.Upgrade = Upgrade
 command_view (code.Load number) = Load number

@@ -1,5 +1,5 @@
 -- Which commands are known where, which are built, and what each reads.
-use Rattle.copland_cli.specs.Command.{Command, Check, Shape, Events, Code, Eval, Walk, Order, Choose, Attest, Appraise, Load}
+use Rattle.copland_cli.specs.Command.{Command, Check, Shape, Events, Code, Eval, Walk, Order, Choose, Attest, Appraise, Upgrade, Load}
 use Rattle.copland_cli.specs.declared.input.BundleNeed.TheVariants.{Optional, Required}
 use Rattle.copland_cli.specs.declared.input.Input.{Input}
 use Rattle.copland_cli.specs.declared.input.Input.TheVariants.{Nothing, Job}
@@ -16,6 +16,7 @@ IsPlain (Order text) = Unit {0}
 IsPlain (Choose text) = Unit {0}
 IsPlain (Attest workers) = ⊥
 IsPlain Appraise = Unit {0}
+IsPlain Upgrade = Unit {0}
 IsPlain (Load number) = Unit {0}
 
 -- with threads every command runs
@@ -33,7 +34,8 @@ IsBuilt (Walk number) = Unit {0}
 IsBuilt (Order text) = Unit {0}
 IsBuilt (Choose text) = Unit {0}
 IsBuilt (Attest workers) = Unit {0}
-IsBuilt Appraise = ⊥
+IsBuilt Appraise = Unit {0}
+IsBuilt Upgrade = Unit {0}
 IsBuilt (Load number) = ⊥
 
 -- what a command reads
@@ -48,4 +50,11 @@ input_of (Order text) = Job Optional
 input_of (Choose text) = Job Optional
 input_of (Attest workers) = Job Optional
 input_of Appraise = Job Required
+input_of Upgrade = Job Required
 input_of (Load number) = Nothing
+
+-- any accepted job will do, with or without a bundle
+abbrev pub IsOfAny : Input → Type 0
+IsOfAny Nothing = ⊥
+IsOfAny (Job Optional) = Unit {0}
+IsOfAny (Job Required) = ⊥

@@ -4,7 +4,7 @@ use Rattle.job_reader.specs.Finding.{Finding, IsFinding, JobView, accepted, refu
 use Rattle.job_reader.specs.declared.refusal.JobError.{JobError}
 use Rattle.job_reader.specs.declared.refusal.JobError.TheVariants as errors
 use Rattle.report_text.specs.declared.refusal.Refusal.{Refusal}
-use Rattle.report_text.specs.declared.refusal.Refusal.TheVariants.{Words, Unbuilt, ReadFault, TooLong, Job as JobRefused, NoReference, BadBundle, BadShape, NoMemory}
+use Rattle.report_text.specs.declared.refusal.Refusal.TheVariants.{Words, Unbuilt, ReadFault, TooLong, Job as JobRefused, NoReference, Ambiguous, BadBundle, BadShape, NoMemory}
 use Rattle.copland_cli.specs.Commands.{input_of}
 use Rattle.copland_cli.specs.Port.{Port, MetFault, IsTooLong, IsUnread, IsWhole, IsWithin}
 use Rattle.copland_cli.specs.declared.input.BundleNeed.{BundleNeed}
@@ -31,6 +31,7 @@ IsRefusedOver bytes need ReadFault = ⊥
 IsRefusedOver bytes need TooLong = ⊥
 IsRefusedOver bytes need (JobRefused error) = IsSolely bytes need (refused error)
 IsRefusedOver bytes need (NoReference event) = ⊥
+IsRefusedOver bytes need (Ambiguous event) = ⊥
 IsRefusedOver bytes need (BadBundle at kind) = ⊥
 IsRefusedOver bytes need (BadShape node) = ⊥
 IsRefusedOver bytes need NoMemory = Unit {0}
@@ -66,6 +67,7 @@ IsUnreadable need source ReadFault = MetFault source × IsWithin source
 IsUnreadable need source TooLong = IsTooLong source
 IsUnreadable need source (JobRefused error) = IsReadAs need source (refused error)
 IsUnreadable need source (NoReference event) = ⊥
+IsUnreadable need source (Ambiguous event) = ⊥
 IsUnreadable need source (BadBundle at kind) = ⊥
 IsUnreadable need source (BadShape node) = ⊥
 IsUnreadable need source NoMemory = IsWithin source

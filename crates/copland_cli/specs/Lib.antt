@@ -9,9 +9,13 @@ pub mod Reported
 pub mod Ordered
 pub mod Chosen
 pub mod Attested
+pub mod Appraised
+pub mod Offered
 pub mod Meaning
+pub mod Upgraded
 pub mod Digests
 pub mod Alike
+pub mod Accepting
 pub mod Outcome
 pub mod Opened
 pub mod Concluded

@@ -6,14 +6,15 @@ use Rattle.session_model.specs.Record.{Record}
 use Rattle.job_reader.specs.Finding.{JobView}
 use Rattle.report_text.specs.Records.{values_text}
 use Rattle.report_text.specs.declared.refusal.Refusal.{Refusal}
-use Rattle.report_text.specs.declared.refusal.Refusal.TheVariants.{Words, Unbuilt, ReadFault, TooLong, Job, NoReference, BadBundle, BadShape, NoMemory}
+use Rattle.report_text.specs.declared.refusal.Refusal.TheVariants.{Words, Unbuilt, ReadFault, TooLong, Job, NoReference, Ambiguous, BadBundle, BadShape, NoMemory}
 use Rattle.copland_cli.specs.Chosen.{IsOfChoice}
+use Rattle.copland_cli.specs.Appraised.{HasNoUpgrade, HasNoVerdicts, IsOfUpgrade, IsOfVerdicts}
 use Rattle.copland_cli.specs.Ordered.{IsOfClaims}
 use Rattle.copland_cli.specs.Attested.{IsOfAttestations}
 use Rattle.copland_cli.specs.Reported.{Failing, Giving, Starving, IsOfRecords, IsOfWalk, SaysOfEach, aspect_text}
 use Rattle.copland_cli.specs.declared.ending.Ending.{Ending}
 use Rattle.copland_cli.specs.declared.session.Aspect.TheVariants as aspects
-use Rattle.copland_cli.specs.Command.{Command, Check, Shape, Events, Code, Eval, Walk, Order, Choose, Attest, Appraise, Load}
+use Rattle.copland_cli.specs.Command.{Command, Check, Shape, Events, Code, Eval, Walk, Order, Choose, Attest, Appraise, Upgrade, Load}
 
 -- a command refuses an accepted job for this
 abbrev pub RefusesJob : Giving → Failing → Command → JobView → Refusal → Type 0
@@ -26,7 +27,8 @@ RefusesJob Gives Fails (Walk number) job why = ⊥
 RefusesJob Gives Fails (Order text) job why = ⊥
 RefusesJob Gives Fails (Choose text) job why = ⊥
 RefusesJob Gives Fails (Attest workers) job why = ⊥
-RefusesJob Gives Fails Appraise job why = ⊥
+RefusesJob Gives Fails Appraise job why = HasNoVerdicts job why
+RefusesJob Gives Fails Upgrade job why = HasNoUpgrade job why
 RefusesJob Gives Fails (Load number) job why = ⊥
 
 -- the report is this text of one record of each session of a job
@@ -50,7 +52,8 @@ IsReport Gives Fails Starves (Walk number) job text ending = IsOfWalkIn Gives Fa
 IsReport Gives Fails Starves (Order claims) job text ending = IsOfClaims claims job.sessions text ending
 IsReport Gives Fails Starves (Choose policy) job text ending = IsOfChoice policy job.sessions text ending
 IsReport Gives Fails Starves (Attest workers) job text ending = IsOfAttestations Gives Fails job text ending
-IsReport Gives Fails Starves Appraise job text ending = ⊥
+IsReport Gives Fails Starves Appraise job text ending = IsOfVerdicts job text ending
+IsReport Gives Fails Starves Upgrade job text ending = IsOfUpgrade job text ending
 IsReport Gives Fails Starves (Load number) job text ending = ⊥
 
 -- the refusal is one that a command may have after those of the job
@@ -61,6 +64,7 @@ IsOfMeaning ReadFault = ⊥
 IsOfMeaning TooLong = ⊥
 IsOfMeaning (Job error) = ⊥
 IsOfMeaning (NoReference event) = Unit {0}
+IsOfMeaning (Ambiguous event) = Unit {0}
 IsOfMeaning (BadBundle at kind) = Unit {0}
 IsOfMeaning (BadShape node) = Unit {0}
 IsOfMeaning NoMemory = ⊥

@@ -7,7 +7,7 @@ use Rattle.report_text.specs.declared.refusal.Refusal.TheVariants as refusals
 use Rattle.copland_cli.specs.declared.ending.Ending.{Ending}
 use Rattle.copland_cli.specs.declared.ending.Ending.TheVariants as endings
 use Rattle.copland_cli.specs.declared.status.Status.{Status}
-use Rattle.copland_cli.specs.declared.status.Status.TheVariants.{Good, SomeFailed, ClaimBroken, Denied, Rejected, BadWords, ReadFault, TooLong, NotJson, BadJob, RepeatedPlace, RepeatedArtefact, RepeatedReference, BadRoot, RepeatedNonce, BadPhrase, Misplaced, Oversize, NoReference, BadBundle, WriteFault, NoMemory, Unbuilt}
+use Rattle.copland_cli.specs.declared.status.Status.TheVariants.{Good, SomeFailed, ClaimBroken, Denied, Rejected, BadWords, ReadFault, TooLong, NotJson, BadJob, RepeatedPlace, RepeatedArtefact, RepeatedReference, BadRoot, RepeatedNonce, BadPhrase, Misplaced, Oversize, NoReference, Ambiguous, BadBundle, WriteFault, NoMemory, Unbuilt}
 
 -- the exit status of each answer
 abbrev pub code_of : Status → ℕ
@@ -30,6 +30,7 @@ code_of BadPhrase = 7
 code_of Misplaced = 8
 code_of Oversize = 8
 code_of NoReference = 9
+code_of Ambiguous = 14
 code_of BadBundle = 10
 code_of WriteFault = 11
 code_of NoMemory = 12
@@ -57,6 +58,7 @@ status_of refusals.ReadFault = ReadFault
 status_of refusals.TooLong = TooLong
 status_of (refusals.Job error) = job_status error
 status_of (refusals.NoReference event) = NoReference
+status_of (refusals.Ambiguous event) = Ambiguous
 status_of (refusals.BadBundle at kind) = BadBundle
 status_of (refusals.BadShape node) = BadBundle
 status_of refusals.NoMemory = NoMemory

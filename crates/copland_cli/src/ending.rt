@@ -1,4 +1,5 @@
 ghost use Rattle.std.specs.Prelude.{◌≡◌};
+ghost use Rattle.copland_cli.specs.Appraised.{ending_of_verdicts};
 ghost use Rattle.copland_cli.specs.Chosen.{ending_of_choice};
 ghost use Rattle.copland_cli.specs.Ordered.{ending_of_claims};
 ghost use Rattle.copland_cli.specs.Reported.{ending_of};
@@ -50,6 +51,17 @@ impl Ending {
         match chosen {
             Some(_) => Ending::Good,
             None => Ending::Denied,
+        }
+    }
+
+    /// The ending of a report on verdicts, by whether all are good.
+    pub fn of_verdicts(all_good: bool) -> Ending
+        ensures { result ≡ ending_of_verdicts all_good }
+    {
+        if all_good {
+            Ending::Good
+        } else {
+            Ending::Rejected
         }
     }
 

@@ -2,6 +2,7 @@ ghost use Rattle.std.specs.Prelude.{◌≡◌, ◌≤◌, IfOk, MatchResult, len
 ghost use Rattle.job_reader.specs.Accepted.{HasCheckedSessions, job_view};
 ghost use Rattle.job_reader.specs.Finding.{accepted};
 ghost use Rattle.copland_cli.specs.Input.{IsReadAs, IsRefusalFor, IsRefusedOver, IsSolely, IsUnreadable, is_required};
+ghost use Rattle.copland_cli.specs.Offered.{HasNeeded};
 ghost use Rattle.copland_cli.specs.Port.{port};
 
 use byte_ports::{ReadAllError, Source, read_all};
@@ -43,6 +44,7 @@ pub fn read_job<S: Source>(alloc: Global, source: &mut S, need: BundleNeed) -> R
         (λ job. IsReadAs need (port S.left S.faults source.old source.new) (accepted (job_view job)))
         (λ why. IsUnreadable need (port S.left S.faults source.old source.new) why) }
     ensures checked { IfOk result HasCheckedSessions }
+    ensures needed { IfOk result (λ job. HasNeeded need (job_view job)) }
     ensures few { IfOk result (λ job. length job.sessions.items ≤ 256) }
 {
     match read_all(alloc, source, INPUT_LIMIT) {
@@ -59,6 +61,7 @@ fn job_over(alloc: Global, bytes: &[u8], need: BundleNeed) -> Result<Job, Refusa
         (λ job. IsSolely bytes.now need (accepted (job_view job)))
         (λ why. IsRefusedOver bytes.now need why) }
     ensures checked { IfOk result HasCheckedSessions }
+    ensures needed { IfOk result (λ job. HasNeeded need (job_view job)) }
     ensures few { IfOk result (λ job. length job.sessions.items ≤ 256) }
 {
     accepted_job_has_few_sessions();

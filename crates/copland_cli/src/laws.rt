@@ -10,7 +10,8 @@ ghost use Rattle.copland_cli.specs.Input.{is_required};
 ghost use Rattle.copland_cli.specs.Meaning.{IsDecisive, IsReport, RefusesJob};
 ghost use Rattle.copland_cli.specs.declared.ending.Ending.{Ending};
 ghost use Rattle.copland_cli.specs.declared.input.BundleNeed.{BundleNeed};
-ghost use Rattle.copland_cli.specs.Command.{Command, Attest, Eval, Walk};
+ghost use Rattle.copland_cli.specs.Command.{Command, Attest, Eval, Upgrade, Walk};
+ghost use Rattle.copland_cli.specs.Upgraded.{IsUpgraded};
 
 use bench_trait::Bench;
 use job_reader::one_finding;
@@ -77,3 +78,11 @@ pub fn attested_reports_differ_in_traces(_bytes: &[u8])
 {
     one_finding(_bytes, false);
 }
+
+/// A bundle and its upgrade have the same verdicts: the job with the bundle that `upgrade` reports in place of
+/// its own has each report of verdicts that the job has, and no other, and so with refusals. And the upgrade
+/// is upgraded to itself.
+pub fn upgrades_have_the_same_verdicts<B: Bench>()
+    ensures { (bench : B) (job : JobView) (text : List ℕ) (ending : Ending) →
+        IsReport (B.gives bench) (B.fails bench) (B.starves bench) Upgrade job text ending → IsUpgraded job text }
+{}

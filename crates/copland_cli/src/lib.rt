@@ -5,6 +5,9 @@
 //! own implements `Bench`, calls `top`, and ends with the code of the status.
 #![tactic(auto)]
 
+mod appraise;
+#[cfg(test)]
+mod appraise_tests;
 mod attest;
 #[cfg(test)]
 mod attest_tests;
@@ -16,6 +19,7 @@ mod input;
 #[cfg(test)]
 mod job_tests;
 mod laws;
+mod offer;
 mod order;
 #[cfg(test)]
 mod order_tests;
@@ -30,6 +34,7 @@ mod test_runs;
 #[cfg(test)]
 mod tests;
 mod threaded;
+mod upgrade;
 mod walk;
 #[cfg(test)]
 mod walk_tests;
@@ -37,7 +42,7 @@ mod words;
 
 pub use laws::{
     attested_reports_differ_in_traces, commands_are_decisive, reports_follow_from_bytes,
-    sessions_are_done_where_artefacts_are_there,
+    sessions_are_done_where_artefacts_are_there, upgrades_have_the_same_verdicts,
 };
 pub use plain::{plain_top, refuse};
 pub use status::Status;

@@ -3,19 +3,22 @@ ghost use Rattle.job_reader.specs.Accepted.{HasCheckedSessions, job_view};
 ghost use Rattle.report_text.specs.Records.{values_text};
 ghost use Rattle.copland_cli.specs.Chosen.{IsOfChoice};
 ghost use Rattle.copland_cli.specs.Command.{command_view};
-ghost use Rattle.copland_cli.specs.Commands.{IsBuilt, IsPlain};
+ghost use Rattle.copland_cli.specs.Commands.{IsBuilt, IsOfAny, IsPlain, input_of};
 ghost use Rattle.copland_cli.specs.Meaning.{IsOfRecordsIn, IsOfWalkIn, IsReport};
 ghost use Rattle.copland_cli.specs.Ordered.{IsOfClaims};
+ghost use Rattle.copland_cli.specs.Offered.{HasNeededBy};
 ghost use Rattle.copland_cli.specs.Outcome.{IsDecided, IsMeant, IsRun};
 ghost use Rattle.copland_cli.specs.Port.{port};
 ghost use Rattle.copland_cli.specs.Reported.{SaysOfEach, aspect_text};
 ghost use Rattle.copland_cli.specs.Words.{texts};
 
+use crate::appraise::appraise_bundle;
 use crate::choose::{choice_text, choose_among};
 use crate::ending::Ending;
 use crate::input::{Input, read_job};
 use crate::order::judge_each;
 use crate::session::{Aspect, push_aspect, records_of, some_failed, walked};
+use crate::upgrade::upgrade_bundle;
 use crate::words::{Command, command_of};
 use bench_trait::Bench;
 use byte_ports::{Bytes, Source};
@@ -69,8 +72,8 @@ fn is_built(command: Command<'_>) -> bool
     match command {
         Command::Check | Command::Shape | Command::Events | Command::Code => true,
         Command::Eval | Command::Walk(_) | Command::Order(_) | Command::Choose(_) => true,
-        Command::Attest(_) => true,
-        Command::Appraise | Command::Load(_) => false,
+        Command::Appraise | Command::Upgrade | Command::Attest(_) => true,
+        Command::Load(_) => false,
     }
 }
 
@@ -102,6 +105,35 @@ fn run_over<B: Bench>(alloc: Global, command: Command<'_>, job: &Job, bench: &B)
     requires plain { IsPlain (command_view command) }
     requires checked { HasCheckedSessions job.now }
     requires few { length job.now.sessions.items ≤ 256 }
+    requires needed { HasNeededBy (input_of (command_view command)) (job_view job.now) }
+    ensures { IsMeant (B.gives bench.now) (B.fails bench.now) (B.starves bench.now) (command_view command.entry) (job_view job.now) result }
+{
+    match command {
+        Command::Appraise => match appraise_bundle(alloc, job) {
+            Ok(report) => Outcome::Reported(report),
+            Err(why) => Outcome::Refused(why),
+        },
+        Command::Upgrade => match upgrade_bundle(alloc, job) {
+            Ok(report) => Outcome::Reported(report),
+            Err(why) => Outcome::Refused(why),
+        },
+        Command::Check | Command::Shape | Command::Events | Command::Code => {
+            run_over_any(alloc, command, job, bench)
+        }
+        Command::Eval | Command::Walk(_) | Command::Order(_) | Command::Choose(_) => {
+            run_over_any(alloc, command, job, bench)
+        }
+        Command::Attest(_) | Command::Load(_) => unreachable!(),
+    }
+}
+
+/// Carries out a command that needs no bundle over an accepted job.
+fn run_over_any<B: Bench>(alloc: Global, command: Command<'_>, job: &Job, bench: &B) -> Outcome
+    requires built { IsBuilt (command_view command) }
+    requires plain { IsPlain (command_view command) }
+    requires any { IsOfAny (input_of (command_view command)) }
+    requires checked { HasCheckedSessions job.now }
+    requires few { length job.now.sessions.items ≤ 256 }
     ensures { IsMeant (B.gives bench.now) (B.fails bench.now) (B.starves bench.now) (command_view command.entry) (job_view job.now) result }
 {
     match report_on(alloc, command, job, bench) {
@@ -110,7 +142,7 @@ fn run_over<B: Bench>(alloc: Global, command: Command<'_>, job: &Job, bench: &B)
     }
 }
 
-/// The report of a command on an accepted job.
+/// The report of a command that needs no bundle on an accepted job.
 fn report_on<B: Bench>(
     alloc: Global,
     command: Command<'_>,
@@ -119,6 +151,7 @@ fn report_on<B: Bench>(
 ) -> Result<Report, NoMemory>
     requires built { IsBuilt (command_view command) }
     requires plain { IsPlain (command_view command) }
+    requires any { IsOfAny (input_of (command_view command)) }
     requires checked { HasCheckedSessions job.now }
     requires few { length job.now.sessions.items ≤ 256 }
     ensures { IfOk result (λ report. IsReport (B.gives bench.now) (B.fails bench.now) (B.starves bench.now) (command_view command.entry) (job_view job.now) report.text report.ending) }
@@ -132,7 +165,8 @@ fn report_on<B: Bench>(
         Command::Walk(number) => walk_each(alloc, job, bench, number),
         Command::Order(text) => judge_claims(alloc, job, text),
         Command::Choose(text) => choose_session(alloc, job, text),
-        Command::Attest(_) | Command::Appraise | Command::Load(_) => unreachable!(),
+        Command::Appraise | Command::Upgrade => unreachable!(),
+        Command::Attest(_) | Command::Load(_) => unreachable!(),
     }
 }
 

@@ -1,5 +1,6 @@
 ghost use Rattle.std.specs.Prelude.{◌≡◌, ◌↔◌};
 ghost use Rattle.report_text.specs.Refusal.{line_of};
+ghost use Rattle.copland_cli.specs.Accepting.{AcceptsExactly};
 ghost use Rattle.copland_cli.specs.Answer.{HasCause, IsAnswer, IsExact, IsTooLongExactly};
 ghost use Rattle.copland_cli.specs.Commands.{IsPlain};
 ghost use Rattle.copland_cli.specs.Concluded.{IsConcluded};
@@ -10,10 +11,12 @@ ghost use Rattle.copland_cli.specs.Words.{IsBadWords, texts};
 
 use crate::outcome::{Outcome, decide};
 use crate::status::{Status, status_of};
+use appraiser::shape_law;
 use bench_trait::Bench;
 use byte_ports::{Sink, Source, write_all_of};
 use report_text::{Refusal, refusal_line};
 use std::alloc::Global;
+use stream_appraiser::acceptance_law;
 
 /// Carries out a command on one thread: reads the job from the source, and writes one report, or the
 /// one line of a refusal, to the sink. It always returns. `attest` needs threads, so it is not a
@@ -26,6 +29,14 @@ pub fn plain_top<S: Source, K: Sink, B: Bench>(
     sink: &mut K,
     bench: &B,
 ) -> Status
+    // Among accepted jobs with a bundle, `appraise` is good exactly where the bundle is: each measurement of the
+    // phrase's shape has a reference, none under a hash has several, and the bytes are the bundle, of version 1
+    // or of version 2 with the marks of the shape, of the value expected on answers that are references.
+    ensures accepts { AcceptsExactly (texts words.now)
+        (port S.left S.faults source.old source.new)
+        (port K.taken K.faults sink.old sink.new)
+        result }
+
     // Some outcome, decided by words, source and bench, and concluded at the sink.
     ensures answer { IsAnswer
         (IsDecided IsPlain (B.gives bench.now) (B.fails bench.now) (B.starves bench.now) (texts words.now)
@@ -54,6 +65,8 @@ pub fn plain_top<S: Source, K: Sink, B: Bench>(
         (port S.left S.faults source.old source.new)
         result }
 {
+    acceptance_law();
+    shape_law();
     let outcome = decide(alloc, words, source, bench);
     conclude(sink, &outcome)
 }

@@ -41,6 +41,8 @@ pub enum Status {
     Oversize,
     /// A measurement has no reference.
     NoReference,
+    /// A measurement under a hash has several references.
+    Ambiguous,
     /// The bytes are not a bundle, or its value does not have the phrase's shape.
     BadBundle,
     /// The sink met a fault while the report was written.
@@ -71,6 +73,7 @@ impl Status {
             Status::BadPhrase => 7,
             Status::Misplaced | Status::Oversize => 8,
             Status::NoReference => 9,
+            Status::Ambiguous => 14,
             Status::BadBundle => 10,
             Status::WriteFault => 11,
             Status::NoMemory => 12,
@@ -90,6 +93,7 @@ pub fn status_of(refusal: &Refusal) -> Status
         Refusal::TooLong => Status::TooLong,
         Refusal::Job(error) => job_status(error),
         Refusal::NoReference { .. } => Status::NoReference,
+        Refusal::Ambiguous { .. } => Status::Ambiguous,
         Refusal::BadBundle { .. } | Refusal::BadShape { .. } => Status::BadBundle,
         Refusal::NoMemory => Status::NoMemory,
     }

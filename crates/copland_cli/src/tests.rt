@@ -1,6 +1,6 @@
 use crate::laws::{
     attested_reports_differ_in_traces, commands_are_decisive, reports_follow_from_bytes,
-    sessions_are_done_where_artefacts_are_there,
+    sessions_are_done_where_artefacts_are_there, upgrades_have_the_same_verdicts,
 };
 use crate::status::Status;
 use crate::test_runs::{
@@ -43,7 +43,7 @@ fn words_are_told_apart(rt: HostRuntime) -> Result<(), Fail> {
         "--help",
     ];
     expect_words(&rt, alloc, &wrong, (Status::BadWords, "error: words\n"))?;
-    let unbuilt = ["appraise", "load 0", "load 4294967295"];
+    let unbuilt = ["load 0", "load 4294967295"];
     expect_words(&rt, alloc, &unbuilt, (Status::Unbuilt, "error: unbuilt\n"))?;
     let walks = ["walk 0", "walk 1", "walk 4294967295"];
     expect_words(&rt, alloc, &walks, (Status::NotJson, "error: not json\n"))
@@ -394,6 +394,7 @@ fn each_status_has_its_code(rt: HostRuntime) {
         (Status::BadPhrase, 7),
         (Status::Oversize, 8),
         (Status::NoReference, 9),
+        (Status::Ambiguous, 14),
         (Status::BadBundle, 10),
         (Status::WriteFault, 11),
         (Status::NoMemory, 12),
@@ -405,6 +406,7 @@ fn each_status_has_its_code(rt: HostRuntime) {
 #[test]
 fn laws_are_called(_rt: HostRuntime) {
     commands_are_decisive::<DigestBench>();
+    upgrades_have_the_same_verdicts::<DigestBench>();
     reports_follow_from_bytes(b"{}");
     sessions_are_done_where_artefacts_are_there();
     attested_reports_differ_in_traces(b"{}");

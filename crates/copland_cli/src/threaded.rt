@@ -1,4 +1,5 @@
 ghost use Rattle.std.specs.Prelude.{◌≡◌, ◌↔◌};
+ghost use Rattle.copland_cli.specs.Accepting.{AcceptsExactly};
 ghost use Rattle.copland_cli.specs.Answer.{HasCause, IsAnswer, IsExact, IsTooLongExactly};
 ghost use Rattle.copland_cli.specs.Attested.{AttestsEachJob};
 ghost use Rattle.copland_cli.specs.Commands.{IsAny};
@@ -10,11 +11,13 @@ use crate::attest::attest;
 use crate::plain::{conclude, plain_top};
 use crate::status::Status;
 use crate::words::workers_in;
+use appraiser::shape_law;
 use bench_trait::Bench;
 use byte_ports::{Sink, Source};
 use std::alloc::Global;
 use std::sync::Wait;
 use std::thread::Threads;
+use stream_appraiser::acceptance_law;
 
 /// Carries out a command: `attest` by workers on threads, and every other one as `plain_top` does. Only
 /// `attest` may wait.
@@ -31,6 +34,14 @@ pub fn top<R: Threads + Wait + Sync, S: Source, K: Sink, B: Bench + Sync>(
     // answers written beside it, of the phrase's shape, with a trace of each event once in the event
     // system's order, each answer given to that session's own question.
     ensures headline { AttestsEachJob (B.gives bench.now) (B.fails bench.now) (texts words.now)
+        (port S.left S.faults source.old source.new)
+        (port K.taken K.faults sink.old sink.new)
+        result }
+
+    // Among accepted jobs with a bundle, `appraise` is good exactly where the bundle is: each measurement of the
+    // phrase's shape has a reference, none under a hash has several, and the bytes are the bundle, of version 1
+    // or of version 2 with the marks of the shape, of the value expected on answers that are references.
+    ensures accepts { AcceptsExactly (texts words.now)
         (port S.left S.faults source.old source.new)
         (port K.taken K.faults sink.old sink.new)
         result }
@@ -63,6 +74,8 @@ pub fn top<R: Threads + Wait + Sync, S: Source, K: Sink, B: Bench + Sync>(
         (port S.left S.faults source.old source.new)
         result }
 {
+    acceptance_law();
+    shape_law();
     carry_out(rt, alloc, words, source, sink, bench)
 }
 

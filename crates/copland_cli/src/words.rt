@@ -26,6 +26,7 @@ pub enum Command<'w> {
     /// A run by this many workers, from 1 to 16.
     Attest(u32),
     Appraise,
+    Upgrade,
     /// The made job of this number.
     Load(u32),
 }
@@ -44,7 +45,7 @@ impl Command<'_> {
             Command::Walk(_) | Command::Order(_) | Command::Choose(_) | Command::Attest(_) => {
                 Input::Job(BundleNeed::Optional)
             }
-            Command::Appraise => Input::Job(BundleNeed::Required),
+            Command::Appraise | Command::Upgrade => Input::Job(BundleNeed::Required),
             Command::Load(_) => Input::Nothing,
         }
     }
@@ -87,7 +88,7 @@ fn workers_by(command: Command<'_>) -> Option<u32>
         Command::Attest(workers) => Some(workers),
         Command::Check | Command::Shape | Command::Events | Command::Code | Command::Eval => None,
         Command::Walk(_) | Command::Order(_) | Command::Choose(_) => None,
-        Command::Appraise | Command::Load(_) => None,
+        Command::Appraise | Command::Upgrade | Command::Load(_) => None,
     }
 }
 
@@ -111,6 +112,9 @@ fn single(word: &str) -> Option<Command<'static>>
     }
     if word == "appraise" {
         return Some(Command::Appraise);
+    }
+    if word == "upgrade" {
+        return Some(Command::Upgrade);
     }
     None
 }

@@ -2,4 +2,5 @@ pub mod Sessions
 pub mod Events
 pub mod Walk
 pub mod Records
+pub mod Verdicts
 pub mod Refusal

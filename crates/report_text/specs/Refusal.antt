@@ -8,7 +8,7 @@ use Rattle.job_values.specs.Words.{kind_word, path_text}
 use Rattle.job_reader.specs.declared.refusal.JobError.{JobError}
 use Rattle.job_reader.specs.declared.refusal.JobError.TheVariants as errors
 use Rattle.report_text.specs.declared.refusal.Refusal.{Refusal}
-use Rattle.report_text.specs.declared.refusal.Refusal.TheVariants.{Words, Unbuilt, ReadFault, TooLong, Job, NoReference, BadBundle, BadShape, NoMemory}
+use Rattle.report_text.specs.declared.refusal.Refusal.TheVariants.{Words, Unbuilt, ReadFault, TooLong, Job, NoReference, Ambiguous, BadBundle, BadShape, NoMemory}
 
 -- the end of a line: one number, two numbers, or two numbers and a word
 abbrev pub one_number : ℕ → List ℕ
@@ -42,6 +42,7 @@ line_of ReadFault = codes "error: read fault\n"
 line_of TooLong = codes "error: input too long\n"
 line_of (Job error) = job_line error
 line_of (NoReference event) = codes "error: no reference " ++ one_number event
+line_of (Ambiguous event) = codes "error: ambiguous reference " ++ one_number event
 line_of (BadBundle at kind) = codes "error: bad bundle at " ++ (decimal at ++ (32 ∷ (bundle_word kind ++ 10 ∷ [])))
 line_of (BadShape node) = codes "error: bad bundle shape " ++ one_number node
 line_of NoMemory = codes "error: no memory\n"

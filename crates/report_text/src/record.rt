@@ -171,7 +171,7 @@ fn push_fault(text: &mut Vec<u8>, fault: BenchFault) -> Result<(), NoMemory>
 }
 
 /// Appends bytes in hexadecimal: makes room for them, and writes them there.
-fn push_hex(text: &mut Vec<u8>, bytes: &[u8]) -> Result<(), NoMemory>
+pub(crate) fn push_hex(text: &mut Vec<u8>, bytes: &[u8]) -> Result<(), NoMemory>
     ensures { OnOk result (text.new.items ≡ text.old.items ++ encode_lower bytes.now) }
 {
     let digits = hex::encode(*text.allocator(), bytes)?;

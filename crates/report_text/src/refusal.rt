@@ -29,6 +29,8 @@ pub enum Refusal {
     Job(JobError),
     /// The least event whose measurement has no reference.
     NoReference { event: u32 },
+    /// The least event of a measurement under a hash that has several references.
+    Ambiguous { event: u32 },
     /// The bytes are not a bundle: the first fault from the left.
     BadBundle { at: u32, kind: BadKind },
     /// The bundle's value doesn't have the phrase's shape: the first node that differs.
@@ -47,6 +49,7 @@ pub fn refusal_line(refusal: &Refusal) -> Line
         Refusal::TooLong => Line::of(b"error: input too long\n"),
         Refusal::Job(error) => job_line(error),
         Refusal::NoReference { event } => number_line(b"error: no reference ", *event),
+        Refusal::Ambiguous { event } => number_line(b"error: ambiguous reference ", *event),
         Refusal::BadBundle { at, kind } => bundle_line(*at, *kind),
         Refusal::BadShape { node } => number_line(b"error: bad bundle shape ", *node),
         Refusal::NoMemory => Line::of(b"error: no memory\n"),

@@ -3,6 +3,7 @@ ghost use Rattle.phrase_tree.specs.Term.{term};
 ghost use Rattle.phrase_tree.specs.Numbering.{IsSized};
 
 use super::*;
+use appraiser::{Verdict, VerdictOf, Verdicts};
 use evidence_codec::BadKind;
 use phrase_tree::{Arg, Args, Asp, Name, NoMemory, Phrase, Place, Split};
 use std::alloc::Global;
@@ -101,6 +102,10 @@ fn refusals_of_appraisals_have_their_lines(rt: HostRuntime) {
         (Refusal::Unbuilt, "error: unbuilt\n"),
         (Refusal::NoReference { event: 0 }, "error: no reference 0\n"),
         (
+            Refusal::Ambiguous { event: 0 },
+            "error: ambiguous reference 0\n",
+        ),
+        (
             bad_bundle(34, BadKind::Short),
             "error: bad bundle at 34 short\n",
         ),
@@ -125,4 +130,42 @@ fn refusals_of_appraisals_have_their_lines(rt: HostRuntime) {
 
 fn bad_bundle(at: u32, kind: BadKind) -> Refusal {
     Refusal::BadBundle { at, kind }
+}
+
+fn push(verdicts: &mut Verdicts, of: VerdictOf, good: bool) -> Result<(), NoMemory> {
+    match verdicts.push(Verdict { of, good }) {
+        Ok(()) => Ok(()),
+        Err(_) => Err(NoMemory),
+    }
+}
+
+// The lines are those of another program.
+#[test]
+fn verdicts_have_their_lines(rt: HostRuntime) -> Result<(), Fail> {
+    let mut verdicts = Verdicts::of(Vec::new(rt.alloc()));
+    let text = verdicts_text(rt.alloc(), 0, &verdicts)?;
+    assert_eq!(rt; text.items(), "appraise session 0\naccepted\n".as_bytes());
+    push(&mut verdicts, VerdictOf::Seal(7), true)?;
+    push(&mut verdicts, VerdictOf::Nonce, true)?;
+    let text = verdicts_text(rt.alloc(), 0, &verdicts)?;
+    assert_eq!(rt;
+        text.items(),
+        "appraise session 0\nseal 7 ok\nnonce ok\naccepted\n".as_bytes()
+    );
+    push(&mut verdicts, VerdictOf::Leaf(2047), false)?;
+    push(&mut verdicts, VerdictOf::Hash(2), true)?;
+    let text = verdicts_text(rt.alloc(), 255, &verdicts)?;
+    let lines = "appraise session 255\nseal 7 ok\nnonce ok\nleaf 2047 bad\nhash 2 ok\nrejected\n";
+    assert_eq!(rt; text.items(), lines.as_bytes());
+    Ok(())
+}
+
+#[test]
+fn an_upgraded_bundle_has_its_line(rt: HostRuntime) -> Result<(), Fail> {
+    let text = upgrade_text(rt.alloc(), 3, b"CPLB\x02\xaf")?;
+    assert_eq!(rt;
+        text.items(),
+        "upgrade session 3\nbundle 43504c4202af\n".as_bytes()
+    );
+    Ok(())
 }

@@ -1,5 +1,5 @@
 -- The bytes are one job, and over digests the records of its sessions are alike.
-use Rattle.std.proofs.Common.{sym, subst}
+use Rattle.std.proofs.Common.{subst}
 use Rattle.job_reader.specs.Finding.{JobView, accepted}
 use Rattle.copland_cli.specs.Attested.{IsOfAttestations}
 use Rattle.copland_cli.specs.Digests.{DigestFails, DigestGives, DigestStarves}
