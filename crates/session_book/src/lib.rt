@@ -9,6 +9,8 @@
 mod book;
 mod entry;
 mod laws;
+#[cfg(test)]
+mod tests;
 
 pub use book::SessionBook;
 pub use entry::{Ending, Entry, Flight, Move, State};
