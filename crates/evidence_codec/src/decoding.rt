@@ -148,10 +148,10 @@ fn read(alloc: Global, either: bool, bytes: &[u8]) -> Result<Whole, DecodeError>
 /// The value whose bundle of version 1 these bytes are. If they are not one, the first fault from the left,
 /// with its offset; or want of memory.
 ///
-/// The bytes are read once from the left. A reader of some three kilobytes holds the head that comes and
-/// a number for each open node, so hostile bytes cost no stack; the nodes that are open, at most 1,025,
-/// are kept in a list beside it. The value takes about a kilobyte for each of its nodes: bytes that are
-/// pairs of pairs take the most, up to 262,143 nodes before the value is whole or a fault is met.
+/// The bytes are read once from the left, by a reader of some two kilobytes, and hostile bytes cost no
+/// stack. The nodes that are open, at most 1,025, are kept in a list, and the value takes about a kilobyte
+/// for each of its nodes. Each byte may be a node, as in pairs of pairs of empty evidence, so 262,144
+/// bytes can make it take some 280 megabytes, also if they turn out to be no bundle.
 pub fn decode(alloc: Global, bytes: &[u8]) -> Result<Value, DecodeError>
     // What is read is spelled so.
     ensures value { IfOk result (λ value. IsBundleOf bytes.now (evidence value)) }
@@ -166,7 +166,7 @@ pub fn decode(alloc: Global, bytes: &[u8]) -> Result<Value, DecodeError>
     }
 }
 
-/// The same for a bundle of version 1 or of version 2, with the marks.
+/// The same for a bundle of version 1 or of version 2, with the marks, which take a byte each.
 pub fn decode_any(alloc: Global, bytes: &[u8]) -> Result<Decoded, DecodeError>
     // What is read is spelled so.
     ensures value { IfOk result (λ found. IsEitherBundleOf bytes.now (evidence found.value) found.marks) }
