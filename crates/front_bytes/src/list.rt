@@ -1,4 +1,4 @@
-ghost use Rattle.std.specs.Prelude.{◌≡◌, ◌≤◌, ℕ, List, [], ◌++◌, drop, length, OnOk, OnErr};
+ghost use Rattle.std.specs.Prelude.{◌≡◌, ◌≤◌, ℕ, List, [], ◌++◌, drop, length, OnOk, OnErr, IfOk};
 
 use crate::writing::{with_room, write_ahead};
 use phrase_tree::NoMemory;
@@ -32,6 +32,16 @@ impl FrontBytes {
             bytes: Vec::new(alloc),
             start: 0,
         }
+    }
+
+    /// No bytes, behind room for so many, so that putting these ahead takes no memory. An error is want of
+    /// memory. Costs a zero written for each byte of the room.
+    pub fn with_room(alloc: Global, room: usize) -> Result<FrontBytes, NoMemory>
+        ensures { IfOk result (λ list. list ≡ []) }
+    {
+        let mut bytes = Vec::with_capacity(alloc, room)?;
+        bytes.resize(room, 0)?;
+        Ok(FrontBytes { bytes, start: room })
     }
 
     /// The number of the bytes, which is the mark of the place ahead of them.

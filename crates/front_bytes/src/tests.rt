@@ -36,3 +36,20 @@ fn parts_stand_behind_what_is_put_ahead(rt: HostRuntime) -> Result<(), Fail> {
     );
     Ok(())
 }
+
+#[test]
+fn room_that_was_taken_is_no_byte(rt: HostRuntime) -> Result<(), Fail> {
+    for room in [0, 1, 255, 262_144] {
+        let mut list = FrontBytes::with_room(rt.alloc(), room).map_err(|_| "memory")?;
+        assert_eq!(rt; list.len(), 0);
+        put_many(&mut list, 255).ok_or("memory")?;
+        assert_eq!(rt; list.len(), 255);
+        list.put_ahead(&[1, 2, 3]).map_err(|_| "memory")?;
+        let all = list.bytes();
+        assert_eq!(rt;
+            all[..4].to_vec(rt.alloc())?.as_slice(),
+            [1, 2, 3, 254].as_slice()
+        );
+    }
+    Ok(())
+}
