@@ -19,6 +19,12 @@ BAD_JOB = 6
 # The most sessions that a job may have.
 SESSIONS = 256
 
+# The bytes of a block of SHA-256.
+BLOCK = 64
+
+# The artefact by which the program's own SHA-256 is timed, in bytes.
+LARGE = 2_000_000
+
 # The least time and the least processor time in seconds, the most memory in megabytes, and the report.
 Runs = collections.namedtuple("Runs", "took worked memory report")
 
@@ -85,6 +91,28 @@ def run(words, job, times, wanted=0):
         if program.returncode != wanted:
             sys.exit("%s: status %d, %r" % (" ".join(words), program.returncode, report[:100]))
     return Runs(min(took), min(worked), max(memory), report)
+
+
+def written(folder, text):
+    """The path of a job with this text, in a folder."""
+    job = os.path.join(folder, "job")
+    with open(job, "w") as sink:
+        sink.write(text)
+    return job
+
+
+def blocks_of(message):
+    """The blocks that are hashed for the code of a message: the key's two, the message's, the outer one."""
+    return 3 + -(-(len(message) + 9) // BLOCK)
+
+
+def block_seconds(folder, times):
+    """What a block costs by the program's own SHA-256: it measures one large artefact in all sessions and in one."""
+    host = place("host", ["a"])
+    large = {"place": "host", "name": "a", "bytes": "00" * LARGE}
+    many = run(["eval"], written(folder, job_of([host], [large], ["USM a"] * SESSIONS)), times).worked
+    one = run(["eval"], written(folder, job_of([host], [large], ["USM a"])), times).worked
+    return (many - one) / ((SESSIONS - 1) * LARGE / BLOCK)
 
 
 def times():

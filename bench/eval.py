@@ -20,7 +20,6 @@ those computed here."""
 
 import hashlib
 import hmac
-import os
 import sys
 import tempfile
 import time
@@ -36,10 +35,6 @@ PLACE = b"bank"
 KEY = bytes(range(16))
 ARTEFACT = b"\x5a" * 64
 
-# The artefact by which the program's own SHA-256 is timed, in bytes.
-LARGE = 2_000_000
-
-BLOCK = 64
 LIMIT = 1.3
 
 
@@ -50,11 +45,6 @@ def job_of(artefact, phrases):
         [{"place": PLACE.decode(), "name": "a", "bytes": artefact.hex()}],
         phrases,
     )
-
-
-def blocks_of(message):
-    """The blocks that are hashed for the code of a message: the key's two, the message's, the outer one."""
-    return 3 + -(-(len(message) + 9) // BLOCK)
 
 
 def evaluated(session):
@@ -73,24 +63,9 @@ def evaluated(session):
         begun = time.process_time()
         seal = hmac.digest(KEY, message, "sha256")
         seconds += time.process_time() - begun
-        blocks += blocks_of(message)
+        blocks += common.blocks_of(message)
         value = b"\x04" + last.to_bytes(4, "big") + seal + value
     return b"CPLB\x01" + len(value).to_bytes(4, "big") + value, blocks, seconds
-
-
-def written(folder, text):
-    job = os.path.join(folder, "job")
-    with open(job, "w") as sink:
-        sink.write(text)
-    return job
-
-
-def block_seconds(folder, times):
-    """What a block of 64 bytes costs by the program's own SHA-256."""
-    artefact = bytes(LARGE)
-    many = common.run(["eval"], written(folder, job_of(artefact, ["USM a"] * PHRASES)), times).worked
-    one = common.run(["eval"], written(folder, job_of(artefact, ["USM a"])), times).worked
-    return (many - one) / ((PHRASES - 1) * LARGE / BLOCK)
 
 
 def compared(title, took, hashing):
@@ -103,14 +78,14 @@ def main():
     blocks = sum(row[1] for row in wanted)
     phrase = " -> ".join([PART] * SEALS)
     with tempfile.TemporaryDirectory() as folder:
-        job = written(folder, job_of(ARTEFACT, [phrase] * PHRASES))
+        job = common.written(folder, job_of(ARTEFACT, [phrase] * PHRASES))
         reading = common.run(["check"], job, times).worked
         evaluated_all = common.run(["eval"], job, times)
         whole = evaluated_all.worked
         found = [line[7:] for line in evaluated_all.report.split(b"\n") if line.startswith(b"bundle ")]
         if found != [row[0].hex().encode() for row in wanted]:
             sys.exit("the bundles aren't those computed here")
-        block = block_seconds(folder, times)
+        block = common.block_seconds(folder, times)
     took = whole - reading
     own = blocks * block
     print("%d phrases of %d events with %d seals: %d blocks hashed" % (PHRASES, SEALS * EVENTS_OF_PART, SEALS, blocks))
