@@ -1,4 +1,5 @@
 pub mod KeyLemmas
+pub mod AskLemmas
 pub mod GatherLemmas
 pub mod AnswerLemmas
 pub mod BundleLemmas

@@ -6,5 +6,6 @@ pub mod Steps
 pub mod Pending
 pub mod Evaluating
 pub mod Gathering
-pub mod Walking
+pub mod Asks
+pub mod Round
 pub mod Fixed

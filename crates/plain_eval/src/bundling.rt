@@ -18,7 +18,7 @@ use crate::leaves::run_leaf;
 use crate::pending::{Step, Work, push_join, push_left, push_reply, push_run};
 use crate::putting::{keep_part, put_head, put_part};
 use byte_ports::Bytes;
-use evidence_types::{Answers, Head};
+use evidence_types::{Answers, Head, worst};
 use front_bytes::FrontBytes;
 use phrase_tree::{NoMemory, Phrase, Place, Split};
 use seal_hmac::KeyRing;
@@ -213,19 +213,21 @@ fn finish(given: &Given<'_>, work: &mut Work<'_>) -> Result<(), NoMemory>
     }
 }
 
-/// An evaluation at its beginning: the nonce stands, and the phrase is to be run.
+/// An evaluation at its beginning: the nonce stands, with room for all that the phrase may make of it, and
+/// the phrase is to be run.
 fn begun<'a>(
     alloc: Global,
     phrase: &'a Phrase,
     root: Place,
     nonce: &[u8; 16],
 ) -> Result<Work<'a>, NoMemory>
+    requires { IsSized (term phrase.now) }
     ensures steps { IfOk result (λ work. todos work.steps.items ≡ run (term phrase.now) root 0 ∷ []) }
     ensures made { IfOk result (λ work. work.made ≡ encoding (nonce_alone nonce.now)) }
     ensures rest { IfOk result (λ work. (work.kept ≡ []) × (work.codes.items ≡ []) × (work.next ≡ 0)) }
 {
     let mut work = Work {
-        made: FrontBytes::new(alloc),
+        made: FrontBytes::with_room(alloc, worst(phrase) as usize)?,
         kept: FrontBytes::new(alloc),
         codes: Vec::new(alloc),
         steps: Vec::new(alloc),
@@ -249,7 +251,8 @@ fn bundled(alloc: Global, value: &[u8]) -> Result<Bytes, NoMemory>
 }
 
 /// The bundle of the value of a session's phrase, as `eval` and `encode` give it, and no value: its bytes are
-/// made from their end to their front in one block of memory. So each seal and each hash is one run over the
+/// made from their end to their front in one block of memory, which is taken once, as large as the phrase's
+/// evidence may ever be. So each seal and each hash is one run over the
 /// bytes that stand behind it, each place's key is hashed once, and a branch copies the evidence of a left
 /// arm twice. The rest takes time in the events, and for a branch in those of its left arm. What is to be
 /// done is a list on the heap, so a phrase of any depth takes the same stack.

@@ -1,12 +1,13 @@
-ghost use Rattle.std.specs.Prelude.{◌≡◌, ◌+◌, ◌^◌, ◌<◌, [], ◌∷◌, IfOk};
+ghost use Rattle.std.specs.Prelude.{◌≡◌, [], ◌∷◌, ◌++◌, IfOk, OnOk};
 ghost use Rattle.phrase_tree.specs.Term.{term};
-ghost use Rattle.phrase_tree.specs.Numbering.{event_count, IsSized};
-ghost use Rattle.phrase_tree.specs.Events.{events_of};
-ghost use Rattle.bench_trait.specs.Asking.{questions_of};
+ghost use Rattle.phrase_tree.specs.Numbering.{IsSized};
 ghost use Rattle.place_check.specs.Session.{session_of};
+ghost use Rattle.plain_eval.specs.Asks.{AreUpTo};
 ghost use Rattle.plain_eval.specs.Gathering.{IsGathered};
-ghost use Rattle.plain_eval.specs.Walking.{AreUpTo, IsNoted, IsWalked, MayPassOne, PassesOne};
+ghost use Rattle.plain_eval.specs.Round.{Ends, IsAsked, IsUnderWay, Paces};
+ghost use Rattle.plain_eval.specs.declared.gathering.Gathered.TheVariants.{All};
 
+use crate::asks::{Asks, Seen, asks_of, see};
 use bench_trait::{ArtefactBook, Ask, AskKind, Bench, BenchFault, MeasureError};
 use evidence_types::{Answer, Answers};
 use phrase_tree::{Asp, NoMemory, Phrase, Place};
@@ -48,7 +49,8 @@ pub fn gather<B: Bench>(
 
 /// Asks a bench for the answers to the questions of a session with this phrase, root and nonce, one
 /// after the other in the order of their events, up to the first fault. Want of memory is the bench's
-/// own, or that of the list of answers. It goes over the phrase once.
+/// own, or that of the list of answers and of what is still to be asked. It goes over the phrase once, as a
+/// loop, so a phrase of any depth takes the same stack.
 pub fn gather_session<B: Bench>(
     alloc: Global,
     phrase: &Phrase,
@@ -65,81 +67,111 @@ pub fn gather_session<B: Bench>(
         gathered) }
 {
     let asking = Asking {
+        phrase,
+        root,
         nonce,
         artefacts,
         bench,
     };
-    let answers = Answers::of(Vec::new(alloc));
-    match gather_from(&asking, phrase, root, 0, answers)? {
-        Walk::Passed(_, answers) => Ok(Gathered::All(answers)),
-        Walk::Stopped(event, fault) => Ok(Gathered::Failed { event, fault }),
+    let asks = asks_of(alloc, phrase, root, nonce)?;
+    let mut round = Round {
+        asks,
+        answers: Answers::of(Vec::new(alloc)),
+    };
+    match finish(&asking, &mut round)? {
+        None => Ok(all_answers(round)),
+        Some((event, fault)) => Ok(Gathered::Failed { event, fault }),
     }
 }
 
-/// What the questions of a session are asked with.
+/// A session, and what its questions are asked with.
 #[derive(Drop)]
 struct Asking<'a, B> {
+    phrase: &'a Phrase,
+    root: Place,
     nonce: &'a [u8; 16],
     artefacts: &'a ArtefactBook,
     bench: &'a B,
 }
 
-/// The number after the events that were passed, and the answers up to there; or the event at which the
-/// walk stopped.
+/// How far the questions were asked: those that are left, and the answers to those before.
 #[derive(Drop)]
-enum Walk {
-    Passed(u32, Answers),
+struct Round<'a> {
+    asks: Asks<'a>,
+    answers: Answers,
+}
+
+/// Whether there is more to be done. The measurement of an event may have failed.
+#[derive(Drop)]
+enum Pace {
+    On,
+    Over,
     Stopped(u32, BenchFault),
 }
 
-/// Walks a phrase at a place from a number on, and appends the answers.
-fn gather_from<B: Bench>(
+/// All answers.
+fn all_answers(round: Round<'_>) -> Gathered
+    ensures { result ≡ All round.entry.answers }
+{
+    let Round { asks: _, answers } = round;
+    Gathered::All(answers)
+}
+
+/// Asks what is left to be asked, up to the first fault.
+fn finish<B: Bench>(
     asking: &Asking<'_, B>,
-    phrase: &Phrase,
-    place: Place,
-    first: u32,
-    answers: Answers,
-) -> Result<Walk, NoMemory>
-    requires few { first + event_count (term phrase.now) < 2 ^ 32 }
-    requires up_to { AreUpTo first answers }
-    ensures { IfOk result (λ walk. IsWalked
+    round: &mut Round<'_>,
+) -> Result<Option<(u32, BenchFault)>, NoMemory>
+    requires { IsUnderWay
+        (λ ask answer. B.gives asking.now.bench.now asking.now.artefacts.now ask answer)
+        (record { root = asking.now.root; nonce = asking.now.nonce.now; phrase = term asking.now.phrase.now })
+        round.old }
+    ensures { IfOk result (λ stopped. Ends
         (λ ask answer. B.gives asking.now.bench.now asking.now.artefacts.now ask answer)
         (λ ask fault. B.fails asking.now.bench.now asking.now.artefacts.now ask fault)
-        (questions_of asking.now.nonce.now (events_of (term phrase.now) place first))
-        first
-        (first + event_count (term phrase.now))
-        answers
-        walk) }
+        (record { root = asking.now.root; nonce = asking.now.nonce.now; phrase = term asking.now.phrase.now })
+        round.new
+        stopped) }
 {
-    match phrase {
-        Phrase::Cpy | Phrase::Sig | Phrase::Hsh | Phrase::Nul => {
-            Ok(Walk::Passed(first + 1, answers))
+    loop {
+        match advance(asking, round) {
+            Ok(Pace::On) => {}
+            Ok(Pace::Over) => return Ok(None),
+            Ok(Pace::Stopped(event, fault)) => return Ok(Some((event, fault))),
+            Err(_) => return Err(NoMemory),
         }
-        Phrase::Usm(asp) => {
-            let ask = question(asking.nonce, first, place, AskKind::Usm, asp);
-            asked(asking, &ask, answers)
-        }
-        Phrase::Kim(target, asp) => {
-            let ask = question(asking.nonce, first, place, AskKind::Kim(*target), asp);
-            asked(asking, &ask, answers)
-        }
-        Phrase::At(place_asked, body) => {
-            let inside = gather_from(asking, body, *place_asked, first + 1, answers)?;
-            Ok(past_last(inside))
-        }
-        Phrase::Then(left, right) => match gather_from(asking, left, place, first, answers)? {
-            Walk::Passed(next, answers) => gather_from(asking, right, place, next, answers),
-            Walk::Stopped(event, fault) => Ok(Walk::Stopped(event, fault)),
-        },
-        Phrase::Seq(_, left, right) | Phrase::Par(_, left, right) => {
-            match gather_from(asking, left, place, first + 1, answers)? {
-                Walk::Passed(next, answers) => {
-                    let arms = gather_from(asking, right, place, next, answers)?;
-                    Ok(past_last(arms))
-                }
-                Walk::Stopped(event, fault) => Ok(Walk::Stopped(event, fault)),
+    }
+}
+
+/// Goes one step further, and asks the question that comes up.
+fn advance<B: Bench>(asking: &Asking<'_, B>, round: &mut Round<'_>) -> Result<Pace, NoMemory>
+    requires { IsUnderWay
+        (λ ask answer. B.gives asking.now.bench.now asking.now.artefacts.now ask answer)
+        (record { root = asking.now.root; nonce = asking.now.nonce.now; phrase = term asking.now.phrase.now })
+        round.old }
+    ensures { IfOk result (λ pace. Paces
+        (λ ask answer. B.gives asking.now.bench.now asking.now.artefacts.now ask answer)
+        (λ ask fault. B.fails asking.now.bench.now asking.now.artefacts.now ask fault)
+        (record { root = asking.now.root; nonce = asking.now.nonce.now; phrase = term asking.now.phrase.now })
+        round.old
+        round.new
+        pace) }
+{
+    let seen = match see(&mut round.asks) {
+        Ok(seen) => seen,
+        Err(_) => return Err(NoMemory),
+    };
+    match &seen {
+        Seen::Passed => Ok(Pace::On),
+        Seen::Measures(event, place, kind, asp) => {
+            let ask = question(round.asks.nonce, *event, *place, *kind, asp);
+            match asked(asking, &ask, &mut round.answers) {
+                Ok(None) => Ok(Pace::On),
+                Ok(Some(fault)) => Ok(Pace::Stopped(*event, fault)),
+                Err(_) => Err(NoMemory),
             }
         }
+        Seen::End => Ok(Pace::Over),
     }
 }
 
@@ -155,49 +187,39 @@ fn question(nonce: &[u8; 16], event: u32, place: Place, kind: AskKind, asp: &Asp
     }
 }
 
-/// Asks one question, and appends its answer. An answer is on the stack only here, and not in each step
-/// of the walk.
-#[inline(never)]
-fn asked<B: Bench>(asking: &Asking<'_, B>, ask: &Ask, answers: Answers) -> Result<Walk, NoMemory>
-    requires few { ask.now.event + 1 < 2 ^ 32 }
-    requires up_to { AreUpTo ask.now.event answers }
-    ensures { IfOk result (λ walk. IsWalked
+/// Asks one question, and appends its answer; what is returned is its fault, if it failed.
+fn asked<B: Bench>(
+    asking: &Asking<'_, B>,
+    ask: &Ask,
+    answers: &mut Answers,
+) -> Result<Option<BenchFault>, NoMemory>
+    requires { AreUpTo ask.now.event answers.old }
+    ensures { IfOk result (λ failed. IsAsked
         (λ ask answer. B.gives asking.now.bench.now asking.now.artefacts.now ask answer)
         (λ ask fault. B.fails asking.now.bench.now asking.now.artefacts.now ask fault)
-        (ask.now ∷ [])
-        ask.now.event
-        (ask.now.event + 1)
-        answers
-        walk) }
+        ask.now
+        answers.old
+        answers.new
+        failed) }
 {
     match asking.bench.measure(asking.artefacts, ask) {
-        Ok(answer) => noted(ask.event, answer, answers),
-        Err(MeasureError::Fault(fault)) => Ok(Walk::Stopped(ask.event, fault)),
+        Ok(answer) => {
+            note(ask.event, answer, answers)?;
+            Ok(None)
+        }
+        Err(MeasureError::Fault(fault)) => Ok(Some(fault)),
         Err(MeasureError::NoMemory) => Err(NoMemory),
     }
 }
 
 /// Appends the answer of an event after those of earlier ones.
 #[tactic(auto, using(crate::proofs::GatherLemmas::rising_push))]
-fn noted(event: u32, answer: Answer, before: Answers) -> Result<Walk, NoMemory>
-    requires few { event + 1 < 2 ^ 32 }
-    requires up_to { AreUpTo event before }
-    ensures { IfOk result (λ walk. IsNoted event answer before walk) }
+fn note(event: u32, answer: Answer, answers: &mut Answers) -> Result<(), NoMemory>
+    requires { AreUpTo event answers.old }
+    ensures { OnOk result (answers.new ≡ answers.old ++ (event, answer) ∷ []) }
 {
-    let mut answers = before;
     match answers.push((event, answer)) {
-        Ok(()) => Ok(Walk::Passed(event + 1, answers)),
+        Ok(()) => Ok(()),
         Err(_) => Err(NoMemory),
-    }
-}
-
-/// Passes a reply or a join, which asks nothing.
-fn past_last(passed: Walk) -> Walk
-    requires { MayPassOne passed }
-    ensures { PassesOne passed result }
-{
-    match passed {
-        Walk::Passed(next, answers) => Walk::Passed(next + 1, answers),
-        Walk::Stopped(event, fault) => Walk::Stopped(event, fault),
     }
 }

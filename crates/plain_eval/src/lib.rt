@@ -7,6 +7,7 @@
 #![tactic(auto)]
 
 mod answering;
+mod asks;
 mod bundling;
 mod copying;
 mod digesting;
