@@ -1,7 +1,7 @@
 -- The questions of a phrase part by part, what one step asks, and that questions come in the order of
 -- their events.
-use Rattle.std.proofs.Common.{◌≡◌, ◌+◌, ◌<◌, ◌≤◌, ℕ, List, [], ◌∷◌, ◌++◌, Option, None, Some, map, reverse, refl, sym, ap, ◌∙◌, append_assoc, arith}
-use Rattle.std.proofs.lemmas.List.{append-nil, reverse-append}
+use Rattle.std.proofs.Common.{◌≡◌, ◌+◌, ◌<◌, ◌≤◌, ℕ, List, [], ◌∷◌, ◌++◌, Option, None, Some, refl, ap, ◌∙◌, append_assoc, arith}
+use Rattle.std.proofs.lemmas.List.{append-nil}
 use Rattle.phrase_tree.specs.declared.measurement.Asp.{Asp}
 use Rattle.phrase_tree.specs.declared.phrase.Split.{Split}
 use Rattle.phrase_tree.specs.Term.{Term, Leaf, cpy, sig, hsh, nul, usm, kim, leaf, at, chain, seq, par}
@@ -10,9 +10,8 @@ use Rattle.phrase_tree.specs.Events.{Event, event as happening, events_of, leaf_
 use Rattle.bench_trait.specs.declared.ask.Ask.{Ask}
 use Rattle.bench_trait.specs.declared.ask.AskKind.TheVariants.{Usm, Kim}
 use Rattle.bench_trait.specs.Asking.{ahead_of, question_of, questions_of}
-use Rattle.plain_eval.specs.Asks.{Coming, GoesOn, Sets, all_coming, asks_coming, asks_of, coming, events_coming, quiet, run, turns_coming}
+use Rattle.plain_eval.specs.Asks.{Coming, GoesOn, Sets, asks_coming, asks_of, events_coming, quiet, run, turns_coming}
 use Rattle.plain_eval.specs.declared.asks.Asks.{Asks}
-use Rattle.plain_eval.specs.declared.asks.Part.{Part}
 
 -- ---- the questions of more events
 
@@ -115,7 +114,6 @@ pub par_goes : (old new : Asks) (place : List ℕ) (split : Split) (left right :
 par_goes old new place split left right parts s =
     let same = seq_goes old new place split left right parts s in
     record { asks_are = same.asks_are; same_end = same.same_end; fewer = same.fewer }
-
 
 -- ---- the order of questions
 

@@ -7,7 +7,7 @@ use Rattle.phrase_tree.specs.Numbering.{event_count, IsSized}
 use Rattle.evidence_types.specs.Answer.{FitsAnswer}
 use Rattle.evidence_types.specs.Answers.{answer_at}
 use Rattle.evidence_types.specs.Bundle.{IsBundleOf}
-use Rattle.evidence_types.specs.Bytes.{FitsBundle, be32, bundle, bundle_head, encoding}
+use Rattle.evidence_types.specs.Bytes.{be32, bundle, bundle_head, encoding}
 use Rattle.evidence_types.specs.Evidence.{Evidence, nonce}
 use Rattle.evidence_types.specs.Measure.{IsLight}
 use Rattle.session_model.specs.Short.{HasShortAnswer, HasShortAnswers}

@@ -1,5 +1,5 @@
 -- Questions that are asked one after the other are answered, up to the first that fails.
-use Rattle.std.proofs.Common.{◌≡◌, ◌+◌, ◌<◌, ◌≤◌, ◌^◌, ℕ, Bool, true, false, List, [], ◌∷◌, ◌++◌, Option, None, Some, refl, sym, ap, subst, ◌∙◌, append_assoc, arith}
+use Rattle.std.proofs.Common.{◌≡◌, ◌+◌, ◌<◌, ◌≤◌, ◌^◌, ℕ, true, false, List, [], ◌∷◌, ◌++◌, Some, refl, sym, ap, subst, ◌∙◌, append_assoc, arith}
 use Rattle.std.proofs.lemmas.List.{append-nil}
 use Rattle.std.specs.Prelude.{nat_eq}
 use Rattle.phrase_tree.specs.Numbering.{event_count}
@@ -11,7 +11,7 @@ use Rattle.session_model.specs.Record.{AreAnswers, AreAnsweredBefore}
 use Rattle.session_model.specs.Session.{Session, session_questions}
 use Rattle.plain_eval.specs.Asks.{AreUpTo, GoesOn, all_coming, asks_left, asks_of, behind, run, turns_left}
 use Rattle.plain_eval.specs.Gathering.{IsFailedAt}
-use Rattle.plain_eval.specs.Round.{FailsAt, IsAsked, IsUnderWay, Paces}
+use Rattle.plain_eval.specs.Round.{FailsAt, IsUnderWay}
 use Rattle.plain_eval.specs.declared.asks.Asks.{Asks}
 use Rattle.plain_eval.specs.declared.gathering.Round.{Round}
 use Rattle.plain_eval.proofs.AskLemmas.{AreInOrder, asks_in_order, wider}

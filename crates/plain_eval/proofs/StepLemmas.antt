@@ -1,11 +1,11 @@
 -- What the steps of a branch make.
-use Rattle.std.proofs.Common.{◌≡◌, ◌+◌, ◌<◌, ◌^◌, ℕ, List, [], ◌∷◌, length, false, true, refl, subst, arith}
+use Rattle.std.proofs.Common.{◌≡◌, ◌+◌, ℕ, List, ◌∷◌, length, false, true, refl, subst, arith}
 use Rattle.phrase_tree.specs.Term.{Term, seq, par}
 use Rattle.phrase_tree.specs.Numbering.{event_count}
 use Rattle.phrase_tree.specs.declared.phrase.Split.{Split}
 use Rattle.evidence_types.specs.Evidence.{Evidence}
 use Rattle.session_model.specs.Value.{Makings, part, value_of}
-use Rattle.plain_eval.specs.Steps.{CanRun, Make, Todo, joined, paired, run, run_left}
+use Rattle.plain_eval.specs.Steps.{Make, Todo, joined, paired, run, run_left}
 
 pub make_seq : (from : Makings) (final : Evidence) (split : Split) (left right : Term) (place : List ℕ) (mark : ℕ) (steps : List Todo) (next : ℕ) (current : Evidence) (under kept : List Evidence) → Make from final (run (seq split left right) place mark ∷ steps) next current under kept → Make from final (run right place mark ∷ run_left false left place (next + 1) (length (joined kept)) ∷ steps) (next + 1 + event_count left) (part split.right current) under (part split.left current ∷ kept)
 make_seq from final split left right place mark steps next current under kept m =

@@ -8,7 +8,7 @@ ghost use Rattle.evidence_types.specs.Evidence.{evidence, usm as measured, kim a
 ghost use Rattle.evidence_types.specs.Measure.{IsLight};
 ghost use Rattle.seal_hmac.specs.Keys.{key_of, key_at};
 ghost use Rattle.seal_hmac.specs.Seal.{seal_of, hash_of};
-ghost use Rattle.session_model.specs.Value.{Makings, part, value_of, session_value};
+ghost use Rattle.session_model.specs.Value.{part, value_of, session_value};
 ghost use Rattle.plain_eval.specs.Keyed.{HasKeys};
 ghost use Rattle.session_model.specs.Short.{HasShortAnswers};
 ghost use Rattle.plain_eval.specs.Evaluating.{makings};

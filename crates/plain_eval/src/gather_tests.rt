@@ -1,5 +1,5 @@
-ghost use Rattle.std.specs.Prelude.{◌≡◌, ◌≤◌, ◌+◌, false, IfOk};
-ghost use Rattle.phrase_tree.specs.Term.{term, at, is_branch};
+ghost use Rattle.std.specs.Prelude.{◌≡◌, ◌≤◌, ◌+◌, ◌*◌, true, false, IfOk};
+ghost use Rattle.phrase_tree.specs.Term.{term, at, is_branch, is_leaf};
 ghost use Rattle.phrase_tree.specs.Numbering.{IsSized, depth, event_count};
 ghost use Rattle.evidence_types.specs.Bytes.{FitsBundle};
 ghost use Rattle.evidence_types.specs.Evidence.{evidence};
@@ -7,11 +7,13 @@ ghost use Rattle.place_check.specs.Session.{IsCheckedAgainst, session_of};
 
 use super::*;
 use crate::digesting::hash_over;
-use crate::tests::{COUNTED, answer, asp, hashed, in_sequence, name, paired, sealed, then};
+use crate::tests::{
+    COUNTED, answer, asp, hashed, in_parallel, in_sequence, name, paired, sealed, then,
+};
 use bench_trait::{ArtefactBook, BenchFault, DigestBench, TableBench, TableResult, TableRow};
 use byte_ports::Bytes;
 use evidence_types::{Answers, Value};
-use phrase_tree::{Name, Names, NoMemory, Phrase, Split};
+use phrase_tree::{BRACKETS, EVENTS, Name, Names, NoMemory, Phrase, Split};
 use place_check::{Checked, PlaceEntry, Places, check, checked_session_has_keys};
 use seal_hmac::Key;
 use std::alloc::Global;
@@ -138,6 +140,84 @@ fn copied_seals(alloc: Global) -> Result<Phrase, NoMemory>
     then(alloc, chain, branch)
 }
 
+/// `CPY` so many times and once more, in so many requests to the bank, each in one to q.
+fn copies(rt: &impl Abort, alloc: Global, more: u32, requests: u32) -> Result<Phrase, NoMemory>
+    requires few { 1 + more + 4 * requests ≤ EVENTS }
+    requires nested { 2 * requests ≤ BRACKETS }
+    ensures { IfOk result (λ phrase. IsSized (term phrase)) }
+{
+    let mut phrase = Phrase::Cpy;
+    for count in 0..more {
+        phrase = then(alloc, phrase, Phrase::Cpy)?;
+    }
+    for open in 0..requests {
+        let inner = asked(alloc, name(rt, "bank"), phrase)?;
+        phrase = asked(alloc, name(rt, "q"), inner)?;
+    }
+    Ok(phrase)
+}
+
+/// The next of numbers that look drawn.
+fn draw(state: &mut u32) -> u32 {
+    *state = state.wrapping_mul(1_664_525).wrapping_add(1_013_904_223);
+    *state >> 16
+}
+
+/// A phrase of one event.
+fn drawn_leaf(rt: &impl Abort, alloc: Global, drawn: u32) -> Result<Phrase, NoMemory>
+    ensures { IfOk result (λ phrase. is_leaf (term phrase) ≡ true) }
+{
+    match drawn % 6 {
+        0 => Ok(Phrase::Cpy),
+        1 => Ok(Phrase::Hsh),
+        2 => Ok(Phrase::Nul),
+        3 => Phrase::usm(alloc, asp(rt, "scan")),
+        _ => Ok(Phrase::Sig),
+    }
+}
+
+/// A phrase and a leaf, joined in one of the ways there are; or the phrase in two requests.
+fn grown(
+    rt: &impl Abort,
+    alloc: Global,
+    drawn: u32,
+    phrase: Phrase,
+    leaf: Phrase,
+) -> Result<Phrase, NoMemory>
+    requires { is_leaf (term leaf) ≡ true }
+    ensures events { IfOk result (λ grown. event_count (term grown) ≤ event_count (term phrase) + 4) }
+    ensures nesting { IfOk result (λ grown. depth (term grown) ≤ depth (term phrase) + 2) }
+{
+    let split = Split {
+        left: drawn & 8 == 0,
+        right: drawn & 16 == 0,
+    };
+    match drawn % 8 {
+        0 => {
+            let inner = asked(alloc, name(rt, "bank"), phrase)?;
+            asked(alloc, name(rt, "q"), inner)
+        }
+        1 | 2 => then(alloc, phrase, leaf),
+        3 => then(alloc, leaf, phrase),
+        4 => in_sequence(alloc, split, phrase, leaf),
+        5 => in_sequence(alloc, split, leaf, phrase),
+        6 => in_parallel(alloc, split, phrase, leaf),
+        _ => in_parallel(alloc, split, leaf, phrase),
+    }
+}
+
+/// A phrase that grew 15 times by what is drawn.
+fn drawn_phrase(rt: &impl Abort, alloc: Global, state: &mut u32) -> Result<Phrase, NoMemory>
+    ensures { IfOk result (λ phrase. IsSized (term phrase)) }
+{
+    let mut phrase = drawn_leaf(rt, alloc, draw(state))?;
+    for step in 0..15u32 {
+        let leaf = drawn_leaf(rt, alloc, draw(state))?;
+        phrase = grown(rt, alloc, draw(state), phrase, leaf)?;
+    }
+    Ok(phrase)
+}
+
 fn entry(
     rt: &impl Abort,
     alloc: Global,
@@ -222,15 +302,14 @@ fn holds_value(bundle: &[u8], hash: &[u8; 32]) -> bool {
     }
 }
 
-/// Checks the phrase at the bank, gathers its answers, and compares the hashes of its value and of the
-/// bytes in its bundle.
-fn expect_value(
+/// Checks the phrase at the bank, gathers its answers, and says whether its bundle holds the value. What is
+/// returned is the hash of the value.
+fn value_hash(
     rt: &impl Abort,
     alloc: Global,
     phrase: Phrase,
     bench: &TableBench,
-    hash: &[u8; 32],
-) -> Result<(), Fail>
+) -> Result<[u8; 32], Fail>
     requires { IsSized (term phrase) }
 {
     let places = two_places(rt, alloc)?;
@@ -246,9 +325,24 @@ fn expect_value(
         return Err(Fail::from("a measurement failed"));
     };
     let value = value_for(alloc, &places, &checked, &answers)?;
-    assert!(rt; hash_over(&value) == *hash);
+    let hash = hash_over(&value);
     let bundle = bundle_for(alloc, &places, &checked, &answers)?;
-    assert!(rt; holds_value(bundle.items(), hash));
+    assert!(rt; holds_value(bundle.items(), &hash));
+    Ok(hash)
+}
+
+/// The same, for a hash that is known.
+fn expect_value(
+    rt: &impl Abort,
+    alloc: Global,
+    phrase: Phrase,
+    bench: &TableBench,
+    hash: &[u8; 32],
+) -> Result<(), Fail>
+    requires { IsSized (term phrase) }
+{
+    let found = value_hash(rt, alloc, phrase, bench)?;
+    assert!(rt; found == *hash);
     Ok(())
 }
 
@@ -336,6 +430,11 @@ fn checked_sessions_have_the_values_written_out(rt: HostRuntime) -> Result<(), F
     let of_all_seals =
         b"\x2c\x61\xbb\x53\x1e\xfe\x50\xf3\x42\x3a\x84\xeb\xb6\xe9\x67\xc6\x54\xad\xf6\xc3\xa1\xc9\x28\x4f\x8b\xdc\xc7\xf5\x00\xf1\x0c\xa2";
     expect_value(&rt, alloc, seals(alloc, 1023)?, &bench, of_all_seals)?;
+    // The longest chain, and the deepest nesting of brackets with the longest chain that goes with it.
+    let longest = copies(&rt, alloc, EVENTS - 1, 0)?;
+    expect_value(&rt, alloc, longest, &bench, of_the_nonce)?;
+    let nested = copies(&rt, alloc, EVENTS - 1 - 2 * BRACKETS, BRACKETS / 2)?;
+    expect_value(&rt, alloc, nested, &bench, of_the_nonce)?;
     let of_the_copies =
         b"\xa5\xb2\x6b\x6c\xb1\xfb\x6d\xdc\x57\x09\x3b\x79\xe5\x3a\x73\xd4\x11\x79\xe1\xba\x7e\x5f\xd8\xe2\xdc\x64\x8b\xd5\x39\x05\x16\x95";
     expect_value(&rt, alloc, copied_seals(alloc)?, &bench, of_the_copies)?;
@@ -345,4 +444,31 @@ fn checked_sessions_have_the_values_written_out(rt: HostRuntime) -> Result<(), F
 #[test]
 fn the_law_of_rising_records_holds_of_the_programs_bench(_rt: HostRuntime) {
     rising_records_are_right::<DigestBench>();
+}
+
+/// An answer for each event of a small phrase.
+fn many_answers(rt: &impl Abort, alloc: Global) -> Result<TableBench, NoMemory> {
+    let bytes = [7; 64];
+    let mut rows = Vec::new(alloc);
+    for event in 0..64u32 {
+        rows.push(TableRow {
+            nonce: COUNTED,
+            event,
+            outcome: TableResult::Answer(answer(rt, &bytes[..event as usize])),
+        })?;
+    }
+    Ok(TableBench::of(rows))
+}
+
+// The bundle is made without the value, and holds it.
+#[test]
+fn bundles_of_drawn_phrases_hold_their_values(rt: HostRuntime) -> Result<(), Fail> {
+    let alloc = rt.alloc();
+    let bench = many_answers(&rt, alloc)?;
+    let mut state = 1;
+    for _ in 0..40 {
+        let phrase = drawn_phrase(&rt, alloc, &mut state)?;
+        value_hash(&rt, alloc, phrase, &bench)?;
+    }
+    Ok(())
 }

@@ -1,4 +1,4 @@
-ghost use Rattle.std.specs.Prelude.{◌≡◌, [], IfOk, IfSome, IsSome, OnOk};
+ghost use Rattle.std.specs.Prelude.{[], IfOk, IfSome, IsSome, OnOk};
 ghost use Rattle.seal_hmac.specs.Fed.{Feeds};
 ghost use Rattle.seal_hmac.specs.Keys.{key_at, key_of};
 ghost use Rattle.plain_eval.specs.Codes.{AreKeyed};

@@ -1,4 +1,4 @@
-ghost use Rattle.std.specs.Prelude.{◌≡◌, ◌≤◌, ℕ, List, [], ◌++◌, length, IsSome, OnOk, true};
+ghost use Rattle.std.specs.Prelude.{◌≡◌, ◌≤◌, ℕ, List, ◌++◌, length, IsSome, OnOk, true};
 ghost use Rattle.phrase_tree.specs.Term.{is_leaf, term};
 ghost use Rattle.evidence_types.specs.Answers.{answer_at};
 ghost use Rattle.evidence_types.specs.Bytes.{encoding};

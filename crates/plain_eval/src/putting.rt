@@ -1,5 +1,4 @@
-ghost use Rattle.std.specs.Prelude.{◌≡◌, ◌≤◌, ℕ, Bool, List, [], ◌++◌, length, IsSome, OnOk};
-ghost use Rattle.evidence_types.specs.Answer.{FitsAnswer};
+ghost use Rattle.std.specs.Prelude.{◌≡◌, ◌≤◌, ℕ, List, [], ◌++◌, length, OnOk};
 ghost use Rattle.evidence_types.specs.Bytes.{encoding};
 ghost use Rattle.evidence_types.specs.Evidence.{Evidence, empty, hash as hash_alone, seal as sealed_over};
 ghost use Rattle.evidence_types.specs.Heads.{IsHead, head_bytes, head_of};

@@ -56,7 +56,12 @@ pub(crate) fn in_sequence(
     Ok(Phrase::Seq(split, Box::new(alloc, left)?, Box::new(alloc, right)?))
 }
 
-fn in_parallel(alloc: Global, split: Split, left: Phrase, right: Phrase) -> Result<Phrase, NoMemory>
+pub(crate) fn in_parallel(
+    alloc: Global,
+    split: Split,
+    left: Phrase,
+    right: Phrase,
+) -> Result<Phrase, NoMemory>
     ensures { IfOk result (λ phrase. term phrase ≡ par split (term left) (term right)) }
 {
     Ok(Phrase::Par(split, Box::new(alloc, left)?, Box::new(alloc, right)?))

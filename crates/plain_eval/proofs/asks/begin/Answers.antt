@@ -1,9 +1,8 @@
 -- Each form of phrase goes on in its own way.
 use Rattle.std.proofs.Common.{inl, inr, refl}
-use Rattle.phrase_tree.specs.Term.{Leaf, cpy, sig, hsh, nul, term}
-use Rattle.phrase_tree.specs.declared.phrase.Split.{Split}
+use Rattle.phrase_tree.specs.Term.{cpy, sig, hsh, nul, term}
 use Rattle.plain_eval.specs.Asks.{all_coming}
-use Rattle.plain_eval.proofs.AskLemmas.{leaf_goes, usm_goes, kim_goes, request_goes, chain_goes, seq_goes, par_goes}
+use Rattle.plain_eval.proofs.AskLemmas.{leaf_goes, request_goes, chain_goes, seq_goes, par_goes}
 use Rattle.plain_eval.proofs.asks.begin.Goals as goal
 
 pub returns-in-Cpy : goal.returns-in-Cpy

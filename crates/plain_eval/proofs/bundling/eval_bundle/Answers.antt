@@ -1,8 +1,7 @@
 -- The nonce stands at the beginning, and the bytes of the value at the end, which are few.
-use Rattle.std.proofs.Common.{◌≡◌, ◌∙◌, List, ℕ, length, sym, ap, subst, arith}
+use Rattle.std.proofs.Common.{◌≡◌, ◌∙◌, subst, arith}
 use Rattle.phrase_tree.specs.Term.{term}
-use Rattle.evidence_types.specs.Bundle.{IsBundleOf}
-use Rattle.evidence_types.specs.Bytes.{bundle, encoding}
+use Rattle.evidence_types.specs.Bytes.{encoding}
 use Rattle.session_model.specs.Value.{Makings, session_value}
 use Rattle.plain_eval.specs.AllShort.{AllShort}
 use Rattle.plain_eval.specs.declared.given.Given.{Given}

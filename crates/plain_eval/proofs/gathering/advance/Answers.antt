@@ -1,5 +1,5 @@
 -- A question that came up was answered, or the bench failed at it.
-use Rattle.std.proofs.Common.{List, ℕ, [], ◌∷◌, None, Some, ap, subst, sym}
+use Rattle.std.proofs.Common.{List, ℕ, [], ◌∷◌, ap, subst, sym}
 use Rattle.phrase_tree.specs.Term.{term}
 use Rattle.bench_trait.specs.declared.ask.Ask.{Ask}
 use Rattle.bench_trait.specs.declared.bench.BenchFault.{BenchFault}
