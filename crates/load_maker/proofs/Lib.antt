@@ -10,4 +10,5 @@ pub mod MeasureLemmas
 pub mod PlacedLemmas
 pub mod SessionLemmas
 pub mod JobLemmas
+pub mod AnsweredLemmas
 pub mod WorkedJob

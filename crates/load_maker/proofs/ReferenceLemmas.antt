@@ -34,20 +34,20 @@ same_parts place kind asp other h =
 plain_same : (a b : ℕ) → same_asp (plain_asp a) (plain_asp b) ≡ true → a ≡ b
 plain_same a b h = asps_same a b (front_holds (pointwise nat_eq (asp_name a) (asp_name b)) true h)
 
-abbrev is_for_same : Reference → Reference → Bool
+abbrev pub is_for_same : Reference → Reference → Bool
 is_for_same reference other = is_for reference.place reference.kind reference.asp other
 
-usm_same : (artefacts : List Artefact) (a b : ℕ) → is_for_same (usm_reference artefacts b) (usm_reference artefacts a) ≡ true → a ≡ b
+pub usm_same : (artefacts : List Artefact) (a b : ℕ) → is_for_same (usm_reference artefacts b) (usm_reference artefacts a) ≡ true → a ≡ b
 usm_same artefacts a b h =
     let parts = same_parts (place_name (b / 8)) Usm (plain_asp (b % 8)) (usm_reference artefacts a) h in
     omega (arith, places_same (a / 8) (b / 8) parts.at_place, plain_same (a % 8) (b % 8) parts.of_asp)
 
-kim_same : (artefacts : List Artefact) (a b : ℕ) → is_for_same (kim_reference artefacts b) (kim_reference artefacts a) ≡ true → a ≡ b
+pub kim_same : (artefacts : List Artefact) (a b : ℕ) → is_for_same (kim_reference artefacts b) (kim_reference artefacts a) ≡ true → a ≡ b
 kim_same artefacts a b h =
     let parts = same_parts (place_name (b / 64)) (Kim (place_name (b / 8 % 8))) (plain_asp (b % 8)) (kim_reference artefacts a) h in
     omega (arith, places_same (a / 64) (b / 64) parts.at_place, places_same (a / 8 % 8) (b / 8 % 8) parts.of_kind, plain_same (a % 8) (b % 8) parts.of_asp)
 
-numbers_same : (artefacts : List Artefact) (a b : ℕ) (low other : Bool) → nat_lt a 64 ≡ low → nat_lt b 64 ≡ other → is_for_same (cond other (usm_reference artefacts b) (kim_reference artefacts (b - 64))) (cond low (usm_reference artefacts a) (kim_reference artefacts (a - 64))) ≡ true → a ≡ b
+pub numbers_same : (artefacts : List Artefact) (a b : ℕ) (low other : Bool) → nat_lt a 64 ≡ low → nat_lt b 64 ≡ other → is_for_same (cond other (usm_reference artefacts b) (kim_reference artefacts (b - 64))) (cond low (usm_reference artefacts a) (kim_reference artefacts (a - 64))) ≡ true → a ≡ b
 numbers_same artefacts a b true true is_low is_other h = usm_same artefacts a b h
 numbers_same artefacts a b true false is_low is_other h =
     let parts = same_parts (place_name ((b - 64) / 64)) (Kim (place_name ((b - 64) / 8 % 8))) (plain_asp ((b - 64) % 8)) (usm_reference artefacts a) h in

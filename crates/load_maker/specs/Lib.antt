@@ -6,3 +6,4 @@ pub mod Phrases
 pub mod Sessions
 pub mod References
 pub mod Job
+pub mod Answered

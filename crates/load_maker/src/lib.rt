@@ -6,6 +6,7 @@
 mod artefacts;
 mod draws;
 mod job;
+mod laws;
 mod names;
 mod phrases;
 mod places;
@@ -15,3 +16,4 @@ mod sessions;
 mod tests;
 
 pub use job::load_job;
+pub use laws::made_questions_are_answered;

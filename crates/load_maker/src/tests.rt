@@ -1,4 +1,5 @@
 use crate::job::load_job;
+use crate::laws::made_questions_are_answered;
 use bench_trait::AskKind;
 use job_reader::Job;
 use phrase_reader::print;
@@ -66,6 +67,7 @@ fn summary(rt: &impl Abort, alloc: Global, job: &Job) -> Result<(u64, u32, Strin
 #[test]
 fn jobs_are_those_of_another_program(rt: HostRuntime) -> Result<(), Fail> {
     let alloc = rt.alloc();
+    made_questions_are_answered();
     let rows = [
         (
             0,
