@@ -1,0 +1,5 @@
+pub mod LeafLemmas
+pub mod AcceptedLemmas
+pub mod TallyLemmas
+pub mod FeedLemmas
+pub mod FoundLemmas
