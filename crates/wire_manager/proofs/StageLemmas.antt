@@ -9,12 +9,11 @@ use Rattle.evidence_types.specs.Evidence.{Evidence, seq_pair, par_pair}
 use Rattle.session_model.specs.Session.{Session}
 use Rattle.session_model.specs.Value.{Makings, leaf_value, part}
 use Rattle.session_runs.specs.Configuration.{Configuration, todo, asked, posted, remote, first, left_arm, right_arm, both_arms, finished, start, measurement, once_finished, followed_by}
-use Rattle.session_runs.specs.Moves.{Step, run as run_step, ask as ask_step, Deed, in_block, answer, delivery, Effect, silent, happens, sends, asks, answers, starts, Moved, on_run, on_ask, on_answer, on_delivery, on_step, only_if, inside, or_else, todo_moves, own_moves, block_moves, inner_moves}
-use Rattle.session_runs.specs.Standing.{Block, root, of, Move, run, ask, deliver, played, answered, State, is_open, is_done, Standing, makings, front, after, made, delivered, played_on, is_in_flight, next}
+use Rattle.session_runs.specs.Moves.{run as run_step, ask as ask_step, Deed, in_block, answer, delivery, Effect, silent, happens, sends, asks, answers, starts, Moved, on_run, on_ask, on_answer, on_delivery, on_step, only_if, inside, or_else, todo_moves, own_moves, block_moves, inner_moves}
+use Rattle.session_runs.specs.Standing.{root, of, Move, run, ask, deliver, played, answered, State, is_open, is_done, Standing, makings, front, after, made, delivered, played_on, is_in_flight, next}
 use Rattle.session_runs.specs.Touches.{Touch, touches_nothing, sends_request, sends_reply, needs_request, needs_reply, Touched, touching, sending, touched_or, touch_phrase, touch_own, touch_block, touch_inner, touch_front, touch_move, touched_while, touch_in, touch_of}
-use Rattle.session_runs.proofs.Induction.{Made}
 use Rattle.session_runs.proofs.EntryLaws.{some_is, no_standing, made_is, where_open_is}
-use Rattle.wire_manager.specs.Stages.{Stage, unsent, waiting, running, replied, Requests, unsent_in, ending_stage, stages, before_of, after_of, Changes}
+use Rattle.wire_manager.specs.Stages.{waiting, running, Requests, unsent_in, ending_stage, stages, before_of, after_of, Changes}
 
 -- nothing changes
 kept : (old new : Requests) → new ≡ old → Changes touches_nothing old new
@@ -40,7 +39,7 @@ wider touch pre post old new c = record {
 
 -- ---- phrases that start
 
-started : (phrase : Term) (i : ℕ) (before : Evidence) → stages (start phrase i before) ≡ unsent_in phrase i
+pub started : (phrase : Term) (i : ℕ) (before : Evidence) → stages (start phrase i before) ≡ unsent_in phrase i
 started (leaf form) i before = refl
 started (at place body) i before = refl
 started (chain left right) i before = ap (λ (s : Requests). s ++ unsent_in right (i + event_count left)) (started left i before)

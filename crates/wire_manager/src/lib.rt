@@ -5,4 +5,4 @@
 
 mod laws;
 
-pub use laws::stage_law;
+pub use laws::{request_law, stage_law};
