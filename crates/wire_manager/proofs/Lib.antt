@@ -1,2 +1,4 @@
 pub mod StageLemmas
 pub mod RequestLemmas
+pub mod MessageLemmas
+pub mod LinkLemmas

@@ -1,2 +1,4 @@
 pub mod Stages
 pub mod Requests
+pub mod Messages
+pub mod Linked

@@ -5,4 +5,4 @@
 
 mod laws;
 
-pub use laws::{request_law, stage_law};
+pub use laws::{link_law, request_law, stage_law, wire_progress_law};
