@@ -1,3 +1,4 @@
+mod WorkedWire
 pub mod StageLemmas
 pub mod RequestLemmas
 pub mod MessageLemmas

@@ -259,10 +259,10 @@ found_cases reply n kind m bundle messages e = by_number (cases_eq n m)
     one = record { reply = kind; name = m; bundle = bundle; arrived = false }
 
     other_number : (reply kind : Bool) → (n ≡ m → ⊥) → is_of reply n (record { reply = kind; name = m; bundle = bundle; arrived = false }) ≡ false
-    other_number true true f = ne_eqb n m f
+    other_number true true f = ne_eqb m n (λ e. f (sym e))
     other_number true false f = refl
     other_number false true f = refl
-    other_number false false f = ne_eqb n m f
+    other_number false false f = ne_eqb m n (λ e. f (sym e))
 
     by_kind : (reply kind : Bool) → n ≡ m → IsSome (found reply n (messages ++ record { reply = kind; name = m; bundle = bundle; arrived = false } ∷ [])) → IsSome (found reply n messages) ⊎ (sending kind m ≡ sending reply n)
     by_kind true true f e = inr (ap (λ k. sends_reply k) (sym f))

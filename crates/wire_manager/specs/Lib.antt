@@ -2,3 +2,4 @@ pub mod Stages
 pub mod Requests
 pub mod Messages
 pub mod Linked
+pub mod WireSchedule

@@ -20,7 +20,7 @@ is_kind false true = false
 is_kind false false = true
 
 abbrev pub is_of : Bool → ℕ → Message → Bool
-is_of reply name message = is_kind reply message.reply && nat_eq name message.name
+is_of reply name message = is_kind reply message.reply && nat_eq message.name name
 
 -- the message of a kind and a number
 abbrev pub found : Bool → ℕ → List Message → Option Message
@@ -74,3 +74,8 @@ message_by (needs_reply n) sent = None
 abbrev pub with_message : List Message → Option Message → List Message
 with_message messages None = messages
 with_message messages (Some message) = messages ++ message ∷ []
+
+-- a repeated request is answered by its reply, where that was sent
+abbrev pub answer_to : Bool → ℕ → List Message → Option ℕ
+answer_to true name messages = None
+answer_to false name messages = index_in true name messages

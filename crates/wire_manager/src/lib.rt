@@ -1,6 +1,6 @@
-//! Managers over links: what a session's requests and replies go through. So far it has the law of stages
-//! alone: how far each request is, and that a move changes the stage of the request that it touches, from the
-//! stage that it then has to the next, and of no other.
+//! Managers over links: what a session's requests and replies go through. So far it has laws alone: how far each
+//! request is and what a move changes of it (`stage_law`, `request_law`); what holds of the messages of a session
+//! (`link_law`); and that an open session over links is never stuck (`wire_progress_law`).
 #![tactic(auto)]
 
 mod laws;
