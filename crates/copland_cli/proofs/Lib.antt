@@ -5,7 +5,7 @@ pub mod AppraiseLemmas
 pub mod OfferLemmas
 pub mod MeaningLemmas
 pub mod OutcomeLemmas
-pub mod RecordLemmas
+pub mod ValueLemmas
 pub mod AnswerLemmas
 pub mod OrderLemmas
 pub mod ChoiceLemmas

@@ -6,6 +6,7 @@ pub mod Port
 pub mod Input
 pub mod Recorded
 pub mod Reported
+pub mod Evaluated
 pub mod Ordered
 pub mod Chosen
 pub mod Attested

@@ -15,6 +15,7 @@ mod choose;
 #[cfg(test)]
 mod choose_tests;
 mod ending;
+mod evaluate;
 mod input;
 #[cfg(test)]
 mod job_tests;

@@ -15,9 +15,10 @@ ghost use Rattle.copland_cli.specs.Words.{texts};
 use crate::appraise::appraise_bundle;
 use crate::choose::{choice_text, choose_among};
 use crate::ending::Ending;
+use crate::evaluate::values_of;
 use crate::input::{Input, read_job};
 use crate::order::judge_each;
-use crate::session::{Aspect, push_aspect, records_of, some_failed, walked};
+use crate::session::{Aspect, push_aspect, some_failed, walked};
 use crate::upgrade::upgrade_bundle;
 use crate::words::{Command, command_of};
 use bench_trait::Bench;
@@ -26,7 +27,7 @@ use job_reader::Job;
 use order_policy::OrderPolicy;
 use phrase_tree::NoMemory;
 use release_policy::ReleasePolicy;
-use report_text::{Refusal, records_text, values_text};
+use report_text::{Refusal, records_text};
 use std::alloc::Global;
 
 /// What is decided before anything is written.
@@ -192,10 +193,11 @@ fn evaluate_each<B: Bench>(alloc: Global, job: &Job, bench: &B) -> Result<Report
     requires { HasCheckedSessions job.now }
     ensures { IfOk result (λ report. IsOfRecordsIn (B.gives bench.now) (B.fails bench.now) (job_view job.now) values_text report.text report.ending) }
 {
-    let records = records_of(alloc, job, bench)?;
-    let text = values_text(alloc, records.as_slice())?;
-    let ending = Ending::of_sessions(some_failed(records.as_slice()));
-    Ok(Report { text, ending })
+    let valued = values_of(alloc, job, bench)?;
+    Ok(Report {
+        text: valued.text,
+        ending: Ending::of_sessions(valued.failed),
+    })
 }
 
 /// Plays the sessions on by the schedule of a number, and reports a record of each.

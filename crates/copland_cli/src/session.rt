@@ -7,7 +7,7 @@ ghost use Rattle.plain_eval.specs.Keyed.{HasKeys};
 ghost use Rattle.session_model.specs.Recorded.{recorded};
 ghost use Rattle.session_walk.specs.Records.{AreOfWalk};
 ghost use Rattle.job_reader.specs.Accepted.{HasCheckedSessions, job_view};
-ghost use Rattle.copland_cli.specs.Reported.{AreRecords, IsRecordOf, aspect_text, some_failed};
+ghost use Rattle.copland_cli.specs.Reported.{IsRecordOf, aspect_text, some_failed};
 
 use crate::walk::walk_rising;
 use bench_trait::Bench;
@@ -44,24 +44,6 @@ pub fn push_aspect(
         Aspect::Events => push_events(text, number, checked),
         Aspect::Code => push_code(text, number, checked),
     }
-}
-
-/// One record of each session of a job, in their order.
-pub fn records_of<B: Bench>(alloc: Global, job: &Job, bench: &B) -> Result<Vec<Record>, NoMemory>
-    requires { HasCheckedSessions job.now }
-    ensures { IfOk result (λ records. AreRecords
-        (B.gives bench.now job.now.artefacts)
-        (B.fails bench.now job.now.artefacts)
-        (keys_of job.now.places)
-        (job_view job.now).sessions
-        (map recorded records.items)) }
-{
-    let mut records = Vec::new(alloc);
-    for checked in job.sessions.as_slice() {
-        let found = record_of(alloc, job, checked, bench)?;
-        records.push(found)?;
-    }
-    Ok(records)
 }
 
 /// One record of each session of a job, in their order, as the schedule of a number plays them.
@@ -106,7 +88,7 @@ pub fn some_failed(records: &[Record]) -> bool
 }
 
 /// The record of a session of a job.
-fn record_of<B: Bench>(
+pub fn record_of<B: Bench>(
     alloc: Global,
     job: &Job,
     checked: &Checked,

@@ -1,6 +1,7 @@
 pub mod KeyLemmas
 pub mod AskLemmas
 pub mod GatherLemmas
+pub mod NestingLemmas
 pub mod AnswerLemmas
 pub mod BundleLemmas
 pub mod CodeLemmas

@@ -62,8 +62,9 @@ fn push_done_record(text: &mut Vec<u8>, number: usize, done: &DoneRecord) -> Res
     push_evidence(text, done.answers.items(), done.bundle.items())
 }
 
-// The same without the trace.
-fn push_value(text: &mut Vec<u8>, number: usize, found: &Record) -> Result<(), NoMemory>
+/// Appends the record of a session without its trace. An error is want of memory. Takes time linear in the
+/// text.
+pub fn push_value(text: &mut Vec<u8>, number: usize, found: &Record) -> Result<(), NoMemory>
     ensures { OnOk result (text.new.items ≡ text.old.items ++ value_text number (recorded found.now)) }
 {
     match found {
