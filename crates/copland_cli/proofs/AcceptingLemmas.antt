@@ -96,4 +96,4 @@ accepts_run laws Gives Fails Starves words source sink job status (Reported repo
 
 pub accepts : (laws : AcceptingLaws) (Known : Command → Type 0) (Gives : Giving) (Fails : Failing) (Starves : Starving) (words : List (List ℕ)) (source sink : Port) (outcome : Outcome) (status : Status) → Known Appraise → IsDecided Known Gives Fails Starves words source outcome → IsConcluded sink outcome status → AcceptsExactly words source sink status
 accepts laws Known Gives Fails Starves words source sink outcome status known h c = λ job a.
-    accepts_run laws Gives Fails Starves words source sink job status outcome a (run_of Known Gives Fails Starves words source outcome Appraise h a.spelled known tt) c
+    accepts_run laws Gives Fails Starves words source sink job status outcome a (run_of Known Gives Fails Starves words source outcome Appraise h a.spelled known) c

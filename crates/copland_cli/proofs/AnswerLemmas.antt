@@ -7,9 +7,9 @@ use Rattle.job_reader.specs.declared.refusal.JobError.TheVariants as errors
 use Rattle.report_text.specs.declared.refusal.Refusal.{Refusal}
 use Rattle.report_text.specs.declared.refusal.Refusal.TheVariants as refusals
 use Rattle.copland_cli.specs.Answer.{ComesAt, HasCause, IsExact, IsGiven, IsReported, IsTooLongExactly, RefusesWith, ReportsWith}
-use Rattle.copland_cli.specs.Commands.{IsBuilt, input_of}
+use Rattle.copland_cli.specs.Commands.{input_of}
 use Rattle.copland_cli.specs.Concluded.{IsConcluded}
-use Rattle.copland_cli.specs.Input.{IsReadAs, IsSubjectBy, IsUnreadable, IsWithoutSubject, IsWithoutSubjectBy, is_required}
+use Rattle.copland_cli.specs.Input.{IsMade, IsReadAs, IsSubjectBy, IsUnreadable, IsWithoutSubject, IsWithoutSubjectBy, is_required}
 use Rattle.copland_cli.specs.Meaning.{IsOfMeaning}
 use Rattle.copland_cli.specs.Outcome.{IsDecided, IsRun}
 use Rattle.copland_cli.specs.Port.{Port, IsTooLong, MetFault, input_limit}
@@ -21,7 +21,7 @@ use Rattle.copland_cli.specs.declared.ending.Ending.TheVariants as endings
 use Rattle.copland_cli.specs.declared.input.BundleNeed.{BundleNeed}
 use Rattle.copland_cli.specs.declared.input.Input.{Input}
 use Rattle.copland_cli.specs.declared.input.Input.TheVariants.{Nothing, Job}
-use Rattle.copland_cli.specs.Command.{Command}
+use Rattle.copland_cli.specs.Command.{Command, Check, Shape, Events, Code, Eval, Walk, Order, Choose, Attest, Appraise, Upgrade, Load}
 use Rattle.copland_cli.specs.declared.outcome.Report.{Report}
 use Rattle.copland_cli.specs.declared.outcome.Outcome.{Outcome}
 use Rattle.copland_cli.specs.declared.outcome.Outcome.TheVariants.{Refused, Reported}
@@ -29,7 +29,7 @@ use Rattle.copland_cli.specs.declared.status.Status.{Status}
 use Rattle.copland_cli.specs.declared.status.Status.TheVariants as statuses
 use Rattle.copland_cli.proofs.MeaningLemmas.{decisive}
 use Rattle.copland_cli.proofs.PortLemmas.{none_given, not_both, whole, within}
-use Rattle.copland_cli.proofs.WordLemmas.{one_command, built-unbuilt}
+use Rattle.copland_cli.proofs.WordLemmas.{one_command}
 
 -- ---- by statuses
 
@@ -51,7 +51,6 @@ job_cause Decided sink errors.NoMemory status never is h = absurd (never h.0)
 
 refusal_cause : (Decided : Outcome → Type 0) (sink : Port) (why : Refusal) (status : Status) → ¬ Decided (Refused (refusals.Job errors.NoMemory)) → status ≡ status_of why → RefusesWith Decided sink why → HasCause Decided sink status
 refusal_cause Decided sink refusals.Words status never is h = moved Decided sink statuses.BadWords status is h
-refusal_cause Decided sink refusals.Unbuilt status never is h = moved Decided sink statuses.Unbuilt status is h
 refusal_cause Decided sink refusals.ReadFault status never is h = moved Decided sink statuses.ReadFault status is h
 refusal_cause Decided sink refusals.TooLong status never is h = moved Decided sink statuses.TooLong status is h
 refusal_cause Decided sink (refusals.Job error) status never is h = job_cause Decided sink error status never is h
@@ -78,10 +77,10 @@ cause Decided sink (Reported report) status never h (inr cut) =
 -- ---- what a run never decides
 
 -- a run's refusal is one of those before the command's meaning, or one of the meaning's own
-no_such_run : (Gives : Giving) (Fails : Failing) (Starves : Starving) (command : Command) (source : Port) (why : Refusal) → IsBuilt command → ¬ IsOfMeaning why → ¬ IsWithoutSubject command source why → ¬ IsRun Gives Fails Starves command source (Refused why)
-no_such_run Gives Fails Starves command source why built early none (inl h) = none h
-no_such_run Gives Fails Starves command source why built early none (inr h) =
-    early ((decisive Gives Fails Starves command h.0 built).late why h.2)
+no_such_run : (Gives : Giving) (Fails : Failing) (Starves : Starving) (command : Command) (source : Port) (why : Refusal) → ¬ IsOfMeaning why → ¬ IsWithoutSubject command source why → ¬ IsRun Gives Fails Starves command source (Refused why)
+no_such_run Gives Fails Starves command source why early none (inl h) = none h
+no_such_run Gives Fails Starves command source why early none (inr h) =
+    early ((decisive Gives Fails Starves command h.0).late why h.2)
 
 not_words : (input : Input) (source : Port) → ¬ IsWithoutSubjectBy input source refusals.Words
 not_words Nothing source h = let e = h.0 in cc
@@ -93,9 +92,8 @@ not_starved_job (Job need) source h = h.2.is
 
 never_starved_job : (Known : Command → Type 0) (Gives : Giving) (Fails : Failing) (Starves : Starving) (words : List (List ℕ)) (source : Port) → ¬ IsDecided Known Gives Fails Starves words source (Refused (refusals.Job errors.NoMemory))
 never_starved_job Known Gives Fails Starves words source (inl run) =
-    no_such_run Gives Fails Starves run.0 source (refusals.Job errors.NoMemory) run.3 (λ h. h) (not_starved_job (input_of run.0) source) run.4
-never_starved_job Known Gives Fails Starves words source (inr (inl bad)) = let e = bad.2 in cc
-never_starved_job Known Gives Fails Starves words source (inr (inr unbuilt)) = let e = unbuilt.5 in cc
+    no_such_run Gives Fails Starves run.0 source (refusals.Job errors.NoMemory) (λ h. h) (not_starved_job (input_of run.0) source) run.3
+never_starved_job Known Gives Fails Starves words source (inr bad) = let e = bad.2 in cc
 
 pub causes : (Known : Command → Type 0) (Gives : Giving) (Fails : Failing) (Starves : Starving) (words : List (List ℕ)) (source sink : Port) (outcome : Outcome) (status : Status) → IsDecided Known Gives Fails Starves words source outcome → IsConcluded sink outcome status → HasCause (IsDecided Known Gives Fails Starves words source) sink status
 causes Known Gives Fails Starves words source sink outcome status h c =
@@ -105,9 +103,8 @@ causes Known Gives Fails Starves words source sink outcome status h c =
 
 words_are_bad : (Known : Command → Type 0) (Gives : Giving) (Fails : Failing) (Starves : Starving) (words : List (List ℕ)) (source : Port) → IsDecided Known Gives Fails Starves words source (Refused refusals.Words) → IsBadWords Known words
 words_are_bad Known Gives Fails Starves words source (inl run) =
-    absurd (no_such_run Gives Fails Starves run.0 source refusals.Words run.3 (λ h. h) (not_words (input_of run.0) source) run.4)
-words_are_bad Known Gives Fails Starves words source (inr (inl bad)) = bad.0
-words_are_bad Known Gives Fails Starves words source (inr (inr unbuilt)) = let e = unbuilt.5 in cc
+    absurd (no_such_run Gives Fails Starves run.0 source refusals.Words (λ h. h) (not_words (input_of run.0) source) run.3)
+words_are_bad Known Gives Fails Starves words source (inr bad) = bad.0
 
 refused_so : (sink : Port) (why : Refusal) (outcome : Outcome) (status : Status) → outcome ≡ Refused why → IsConcluded sink outcome status → status ≡ status_of why
 refused_so sink why outcome status same c =
@@ -115,8 +112,7 @@ refused_so sink why outcome status same c =
 
 bad_so : (Known : Command → Type 0) (Gives : Giving) (Fails : Failing) (Starves : Starving) (words : List (List ℕ)) (source sink : Port) (outcome : Outcome) (status : Status) → IsDecided Known Gives Fails Starves words source outcome → IsConcluded sink outcome status → IsBadWords Known words → status ≡ statuses.BadWords
 bad_so Known Gives Fails Starves words source sink outcome status (inl run) c bad = absurd (bad run.0 run.1 run.2)
-bad_so Known Gives Fails Starves words source sink outcome status (inr (inl same)) c bad = refused_so sink refusals.Words outcome status same.2 c
-bad_so Known Gives Fails Starves words source sink outcome status (inr (inr unbuilt)) c bad = absurd (bad unbuilt.0 unbuilt.1 unbuilt.2)
+bad_so Known Gives Fails Starves words source sink outcome status (inr same) c bad = refused_so sink refusals.Words outcome status same.2 c
 
 pub bad_words : (Known : Command → Type 0) (Gives : Giving) (Fails : Failing) (Starves : Starving) (words : List (List ℕ)) (source sink : Port) (outcome : Outcome) (status : Status) → IsDecided Known Gives Fails Starves words source outcome → IsConcluded sink outcome status → (status ≡ statuses.BadWords) ↔ IsBadWords Known words
 bad_words Known Gives Fails Starves words source sink outcome status h c = (
@@ -126,12 +122,10 @@ bad_words Known Gives Fails Starves words source sink outcome status h c = (
 
 -- ---- the run of the command that the words spell
 
-pub run_of : (Known : Command → Type 0) (Gives : Giving) (Fails : Failing) (Starves : Starving) (words : List (List ℕ)) (source : Port) (outcome : Outcome) (command : Command) → IsDecided Known Gives Fails Starves words source outcome → Spells words command → Known command → IsBuilt command → IsRun Gives Fails Starves command source outcome
-run_of Known Gives Fails Starves words source outcome command (inl run) spelled known built =
-    subst (λ (one : Command). IsRun Gives Fails Starves one source outcome) (one_command words run.0 command run.1 spelled) run.4
-run_of Known Gives Fails Starves words source outcome command (inr (inl bad)) spelled known built = absurd (bad.0 command spelled known)
-run_of Known Gives Fails Starves words source outcome command (inr (inr unbuilt)) spelled known built =
-    absurd (built-unbuilt words command unbuilt.0 spelled built unbuilt.1 unbuilt.3)
+pub run_of : (Known : Command → Type 0) (Gives : Giving) (Fails : Failing) (Starves : Starving) (words : List (List ℕ)) (source : Port) (outcome : Outcome) (command : Command) → IsDecided Known Gives Fails Starves words source outcome → Spells words command → Known command → IsRun Gives Fails Starves command source outcome
+run_of Known Gives Fails Starves words source outcome command (inl run) spelled known =
+    subst (λ (one : Command). IsRun Gives Fails Starves one source outcome) (one_command words run.0 command run.1 spelled) run.3
+run_of Known Gives Fails Starves words source outcome command (inr bad) spelled known = absurd (bad.0 command spelled known)
 
 -- ---- each answer comes exactly where what is given calls for it
 
@@ -150,16 +144,30 @@ comes_so : (Gives : Giving) (Fails : Failing) (Starves : Starving) (command : Co
 comes_so Gives Fails Starves command sink one other status same h =
     subst (λ (f : Finding). ComesAt Gives Fails command sink f status) same h
 
+-- a command makes one job
+one_made : (command : Command) (one other : JobView) → IsMade command one → IsMade command other → one ≡ other
+one_made Check one other h k = absurd h
+one_made Shape one other h k = absurd h
+one_made Events one other h k = absurd h
+one_made Code one other h k = absurd h
+one_made Eval one other h k = absurd h
+one_made (Walk number) one other h k = absurd h
+one_made (Order text) one other h k = absurd h
+one_made (Choose text) one other h k = absurd h
+one_made (Attest workers) one other h k = absurd h
+one_made Appraise one other h k = absurd h
+one_made Upgrade one other h k = absurd h
+one_made (Load number) one other h k = h ∙ sym k
+
 -- the subject is the job that is given
 same_subject : (input : Input) (command : Command) (source : Port) (finding : Finding) (job : JobView) → IsGiven input command source finding → IsSubjectBy input command source job → accepted job ≡ finding
-same_subject Nothing command source (accepted made) job given subject = absurd given
+same_subject Nothing command source (accepted made) job given subject = ap (λ (j : JobView). accepted j) (one_made command job made subject.0 given)
 same_subject Nothing command source (refused error) job given subject = absurd given
 same_subject (Job need) command source finding job given subject =
     same_finding need source given.0 finding (accepted job) given.1 given.3 subject
 
 exact_unreadable : (Gives : Giving) (Fails : Failing) (Starves : Starving) (command : Command) (need : BundleNeed) (source sink : Port) (why : Refusal) (status : Status) (finding : Finding) → (bytes : List ℕ) → source.bytes_before ≡ Some bytes → length bytes ≤ input_limit → IsFinding bytes (is_required need) finding → Calm source status → status ≡ status_of why → IsUnreadable need source why → ComesAt Gives Fails command sink finding status
 exact_unreadable Gives Fails Starves command need source sink refusals.Words status finding bytes told short is calm at h = absurd h
-exact_unreadable Gives Fails Starves command need source sink refusals.Unbuilt status finding bytes told short is calm at h = absurd h
 exact_unreadable Gives Fails Starves command need source sink refusals.ReadFault status finding bytes told short is calm at h = absurd (calm.kept h.0)
 exact_unreadable Gives Fails Starves command need source sink refusals.TooLong status finding bytes told short is calm at h =
     absurd (let few = within source.bytes_before source.bytes_after bytes h.0 told h.1 in omega (arith, few, short, h.2))
@@ -180,32 +188,31 @@ reported : (sink : Port) (report : Report) (status : Status) → IsConcluded sin
 reported sink report status (inl written) = inl (report.ending, written.0)
 reported sink report status (inr cut) = inr (cut.0, cut.1.0)
 
-exact_run : (Gives : Giving) (Fails : Failing) (Starves : Starving) (command : Command) (source sink : Port) (outcome : Outcome) (status : Status) (finding : Finding) → IsBuilt command → IsGiven (input_of command) command source finding → Calm source status → IsRun Gives Fails Starves command source outcome → IsConcluded sink outcome status → ComesAt Gives Fails command sink finding status
-exact_run Gives Fails Starves command source sink (Refused why) status finding built given calm (inl h) c =
+exact_run : (Gives : Giving) (Fails : Failing) (Starves : Starving) (command : Command) (source sink : Port) (outcome : Outcome) (status : Status) (finding : Finding) → IsGiven (input_of command) command source finding → Calm source status → IsRun Gives Fails Starves command source outcome → IsConcluded sink outcome status → ComesAt Gives Fails command sink finding status
+exact_run Gives Fails Starves command source sink (Refused why) status finding given calm (inl h) c =
     exact_without Gives Fails Starves command (input_of command) source sink why status finding given calm c.0 h
-exact_run Gives Fails Starves command source sink (Refused why) status finding built given calm (inr h) c =
-    let law = decisive Gives Fails Starves command h.0 built in
+exact_run Gives Fails Starves command source sink (Refused why) status finding given calm (inr h) c =
+    let law = decisive Gives Fails Starves command h.0 in
     comes_so Gives Fails Starves command sink (accepted h.0) finding status (same_subject (input_of command) command source finding h.0 given h.1) (
       λ other refuses. c.0 ∙ ap (λ w. status_of w) (law.one_refusal why other h.2 refuses),
       λ none. absurd (none why h.2),
     )
-exact_run Gives Fails Starves command source sink (Reported report) status finding built given calm h c =
-    let law = decisive Gives Fails Starves command h.0 built in
+exact_run Gives Fails Starves command source sink (Reported report) status finding given calm h c =
+    let law = decisive Gives Fails Starves command h.0 in
     comes_so Gives Fails Starves command sink (accepted h.0) finding status (same_subject (input_of command) command source finding h.0 given h.1) (
       λ why refuses. absurd (law.not_both why report.text report.ending refuses h.2),
       λ none. reported sink report status c,
     )
 
 pub exact : (Known : Command → Type 0) (Gives : Giving) (Fails : Failing) (Starves : Starving) (words : List (List ℕ)) (source sink : Port) (outcome : Outcome) (status : Status) → IsDecided Known Gives Fails Starves words source outcome → IsConcluded sink outcome status → IsExact Known Gives Fails words source sink status
-exact Known Gives Fails Starves words source sink outcome status h c = λ command finding spelled known built kept memory given.
-    exact_run Gives Fails Starves command source sink outcome status finding built given (record { kept = kept; memory = memory })
-    (run_of Known Gives Fails Starves words source outcome command h spelled known built) c
+exact Known Gives Fails Starves words source sink outcome status h c = λ command finding spelled known kept memory given.
+    exact_run Gives Fails Starves command source sink outcome status finding given (record { kept = kept; memory = memory })
+    (run_of Known Gives Fails Starves words source outcome command h spelled known) c
 
 -- ---- too long, both ways
 
 long_unreadable : (need : BundleNeed) (source : Port) (left : List ℕ) (why : Refusal) (status : Status) → source.bytes_before ≡ Some left → IsTooLong source → status ≡ status_of why → IsUnreadable need source why → status ≡ statuses.TooLong
 long_unreadable need source left refusals.Words status told long at h = absurd h
-long_unreadable need source left refusals.Unbuilt status told long at h = absurd h
 long_unreadable need source left refusals.ReadFault status told long at h = absurd (not_both source left h.1.0 told long h.1.1 h.1.2)
 long_unreadable need source left refusals.TooLong status told long at h = at
 long_unreadable need source left (refusals.Job error) status told long at h = absurd (not_both source left h.0 told long h.1.given h.1.short)
@@ -235,17 +242,16 @@ long_source : (input : Input) (source : Port) → IsWithoutSubjectBy input sourc
 long_source Nothing source h = absurd (let e = h.0 in cc)
 long_source (Job need) source h = h
 
-long_decided_run : (Gives : Giving) (Fails : Failing) (Starves : Starving) (command : Command) (source : Port) → IsBuilt command → IsRun Gives Fails Starves command source (Refused refusals.TooLong) → IsTooLong source
-long_decided_run Gives Fails Starves command source built (inl h) = long_source (input_of command) source h
-long_decided_run Gives Fails Starves command source built (inr h) = absurd ((decisive Gives Fails Starves command h.0 built).late refusals.TooLong h.2)
+long_decided_run : (Gives : Giving) (Fails : Failing) (Starves : Starving) (command : Command) (source : Port) → IsRun Gives Fails Starves command source (Refused refusals.TooLong) → IsTooLong source
+long_decided_run Gives Fails Starves command source (inl h) = long_source (input_of command) source h
+long_decided_run Gives Fails Starves command source (inr h) = absurd ((decisive Gives Fails Starves command h.0).late refusals.TooLong h.2)
 
 long_decided : (Known : Command → Type 0) (Gives : Giving) (Fails : Failing) (Starves : Starving) (words : List (List ℕ)) (source : Port) → IsDecided Known Gives Fails Starves words source (Refused refusals.TooLong) → IsTooLong source
-long_decided Known Gives Fails Starves words source (inl run) = long_decided_run Gives Fails Starves run.0 source run.3 run.4
-long_decided Known Gives Fails Starves words source (inr (inl bad)) = absurd (let e = bad.2 in cc)
-long_decided Known Gives Fails Starves words source (inr (inr unbuilt)) = absurd (let e = unbuilt.5 in cc)
+long_decided Known Gives Fails Starves words source (inl run) = long_decided_run Gives Fails Starves run.0 source run.3
+long_decided Known Gives Fails Starves words source (inr bad) = absurd (let e = bad.2 in cc)
 
 pub too_long : (Known : Command → Type 0) (Gives : Giving) (Fails : Failing) (Starves : Starving) (words : List (List ℕ)) (source sink : Port) (outcome : Outcome) (status : Status) → IsDecided Known Gives Fails Starves words source outcome → IsConcluded sink outcome status → IsTooLongExactly Known words source status
-too_long Known Gives Fails Starves words source sink outcome status h c = λ command left spelled known built told. (
+too_long Known Gives Fails Starves words source sink outcome status h c = λ command left spelled known told. (
   λ is. long_decided Known Gives Fails Starves words source (subst (λ (s : Status). HasCause (IsDecided Known Gives Fails Starves words source) sink s) is (causes Known Gives Fails Starves words source sink outcome status h c)).0,
-  λ long. long_run Gives Fails Starves command source sink left outcome status told long (run_of Known Gives Fails Starves words source outcome command h spelled known built) c,
+  λ long. long_run Gives Fails Starves command source sink left outcome status told long (run_of Known Gives Fails Starves words source outcome command h spelled known) c,
 )

@@ -20,9 +20,14 @@ use Rattle.release_policy.specs.declared.rule.Rule.{Rule}
 use Rattle.release_policy.specs.Choices.{Chooses}
 use Rattle.release_policy.specs.PolicyText.{IsPolicyText}
 use Rattle.copland_cli.specs.Chosen.{IsOfChoice, choice_text, ending_of_choice}
+use Rattle.load_runner.specs.Figures.{figures_of, has_accepted_all}
+use Rattle.load_runner.specs.Run.{AreRunRecords}
+use Rattle.load_runner.specs.Text.{load_text}
+use Rattle.load_runner.specs.declared.figures.Figures.{Figures}
+use Rattle.copland_cli.specs.Loaded.{ending_of_load}
 use Rattle.copland_cli.specs.Ordered.{AreJudged, IsOfClaims, SaysOfClaims, ending_of_claims, found_text, some_broken}
 use Rattle.copland_cli.specs.Commands.{IsPlain}
-use Rattle.copland_cli.specs.Meaning.{IsOfRecordsIn, IsOfWalkIn, IsReport}
+use Rattle.copland_cli.specs.Meaning.{IsOfLoadIn, IsOfRecordsIn, IsOfWalkIn, IsReport}
 use Rattle.copland_cli.specs.Reported.{AreRecords, Failing, Giving, Starving, SaysOfEach, aspect_text, ending_of, some_failed}
 use Rattle.copland_cli.specs.declared.ending.Ending.{Ending}
 use Rattle.copland_cli.specs.declared.session.Aspect.TheVariants as aspects
@@ -100,6 +105,24 @@ same_of_choices laws spelled sessions text other ending ended h k =
       h.ended ∙ ap (λ (c : Option ℕ). ending_of_choice c) chosen ∙ sym k.ended,
     )
 
+same_run : (Gives : Giving) (Fails : Failing) (law : HasOneRecord Gives Fails) (job : JobView) (sessions : List Session) (one other : List Record) → AreRunRecords (Gives job.artefacts) (Fails job.artefacts) (keys_of job.places) sessions one → AreRunRecords (Gives job.artefacts) (Fails job.artefacts) (keys_of job.places) sessions other → one ≡ other
+same_run Gives Fails law job [] [] [] h k = refl
+same_run Gives Fails law job [] [] (again ∷ other) h k = absurd k
+same_run Gives Fails law job [] (found ∷ one) other h k = absurd h
+same_run Gives Fails law job (session ∷ sessions) [] other h k = absurd h
+same_run Gives Fails law job (session ∷ sessions) (found ∷ one) [] h k = absurd k
+same_run Gives Fails law job (session ∷ sessions) (found ∷ one) (again ∷ other) h k =
+    let first = law job session found again h.0.rising k.0.rising in
+    let rest = same_run Gives Fails law job sessions one other h.1 k.1 in cc
+
+same_of_loads : (Gives : Giving) (Fails : Failing) (law : HasOneRecord Gives Fails) (job : JobView) (number : ℕ) (text other : List ℕ) (ending ended : Ending) → IsOfLoadIn Gives Fails job number text ending → IsOfLoadIn Gives Fails job number other ended → (text ≡ other) × (ending ≡ ended)
+same_of_loads Gives Fails law job number text other ending ended h k =
+    let records = same_run Gives Fails law job job.sessions h.run.records k.run.records h.run.each k.run.each in
+    let figures = h.run.counted ∙ ap (λ (r : List Record). figures_of job r) records ∙ sym k.run.counted in (
+      h.reported ∙ ap (λ (f : Figures). load_text number f) figures ∙ sym k.reported,
+      h.ended ∙ ap (λ (f : Figures). ending_of_load (has_accepted_all f)) figures ∙ sym k.ended,
+    )
+
 on_one_job : (Gives : Giving) (Fails : Failing) (Starves : Starving) (law : HasOneRecord Gives Fails) (walks : HasOneWalk Gives Fails Starves) (laws : AreOne) (command : Command) (job : JobView) (text other : List ℕ) (ending ended : Ending) → IsPlain command → IsReport Gives Fails Starves command job text ending → IsReport Gives Fails Starves command job other ended → (text ≡ other) × (ending ≡ ended)
 on_one_job Gives Fails Starves law walks laws Check job text other ending ended plain h k = same_each (aspect_text aspects.Check) job.sessions text other ending ended h k
 on_one_job Gives Fails Starves law walks laws Shape job text other ending ended plain h k = same_each (aspect_text aspects.Shape) job.sessions text other ending ended h k
@@ -112,7 +135,7 @@ on_one_job Gives Fails Starves law walks laws (Choose policy) job text other end
 on_one_job Gives Fails Starves law walks laws (Attest workers) job text other ending ended plain h k = absurd plain
 on_one_job Gives Fails Starves law walks laws Appraise job text other ending ended plain h k = same_verdicts job text other ending ended h k
 on_one_job Gives Fails Starves law walks laws Upgrade job text other ending ended plain h k = same_upgrade job text other ending ended h k
-on_one_job Gives Fails Starves law walks laws (Load number) job text other ending ended plain h k = absurd h
+on_one_job Gives Fails Starves law walks laws (Load number) job text other ending ended plain h k = same_of_loads Gives Fails law job number text other ending ended h k
 
 -- two jobs that are one finding are one job
 pub same_job : (job other : JobView) → accepted job ≡ accepted other → other ≡ job

@@ -42,9 +42,8 @@ none_known words none bad Upgrade spelled = bad Upgrade spelled tt
 none_known words none bad (Load number) spelled = bad (Load number) spelled tt
 
 decided_of_any : (Gives : Giving) (Fails : Failing) (Starves : Starving) (words : List (List ℕ)) (source : Port) (outcome : Outcome) → ((workers : ℕ) → ¬ Spells words (Attest workers)) → IsDecided IsPlain Gives Fails Starves words source outcome → IsDecided IsAny Gives Fails Starves words source outcome
-decided_of_any Gives Fails Starves words source outcome none (inl run) = inl (run.0, run.1, tt, run.3, run.4)
-decided_of_any Gives Fails Starves words source outcome none (inr (inl bad)) = inr (inl ((λ command spelled known. none_known words none bad.0 command spelled), bad.1, bad.2))
-decided_of_any Gives Fails Starves words source outcome none (inr (inr unbuilt)) = inr (inr (unbuilt.0, unbuilt.1, tt, unbuilt.3, unbuilt.4, unbuilt.5))
+decided_of_any Gives Fails Starves words source outcome none (inl run) = inl (run.0, run.1, tt, run.3)
+decided_of_any Gives Fails Starves words source outcome none (inr bad) = inr ((λ command spelled known. none_known words none bad.0 command spelled), bad.1, bad.2)
 
 -- words that aren't those of `attest` have among all commands the answer that they have on one thread
 pub answer_of_any : (Gives : Giving) (Fails : Failing) (Starves : Starving) (words : List (List ℕ)) (source sink : Port) (status : Status) → ((workers : ℕ) → ¬ Spells words (Attest workers)) → IsAnswer (IsDecided IsPlain Gives Fails Starves words source) sink status → IsAnswer (IsDecided IsAny Gives Fails Starves words source) sink status
@@ -71,7 +70,6 @@ its_job need source job other status a read = job_same other job (same_finding n
 
 pub not_refused : (need : BundleNeed) (source : Port) (job : JobView) (status : Status) (why : Refusal) → IsTold need source job status → status ≡ status_of why → ¬ IsUnreadable need source why
 not_refused need source job status refusals.Words a at h = h
-not_refused need source job status refusals.Unbuilt a at h = h
 not_refused need source job status refusals.ReadFault a at h = a.read h.0
 not_refused need source job status refusals.TooLong a at h =
     let few = within source.bytes_before source.bytes_after a.bytes h.0 a.told h.1 in omega (arith, few, a.short, h.2)
@@ -106,4 +104,4 @@ concluded_so Gives Fails Starves words source sink job status (Reported report) 
 
 pub headline : (Gives : Giving) (Fails : Failing) (Starves : Starving) (words : List (List ℕ)) (source sink : Port) (outcome : Outcome) (status : Status) → IsDecided IsAny Gives Fails Starves words source outcome → IsConcluded sink outcome status → AttestsEachJob Gives Fails words source sink status
 headline Gives Fails Starves words source sink outcome status h c = λ job a.
-    concluded_so Gives Fails Starves words source sink job status outcome a (run_of IsAny Gives Fails Starves words source outcome (Attest a.workers) h a.spelled tt tt) c
+    concluded_so Gives Fails Starves words source sink job status outcome a (run_of IsAny Gives Fails Starves words source outcome (Attest a.workers) h a.spelled tt) c

@@ -17,3 +17,4 @@ pub mod FunctionLemmas
 pub mod DigestLemmas
 pub mod AttestLemmas
 pub mod AlikeLemmas
+pub mod LoadLemmas

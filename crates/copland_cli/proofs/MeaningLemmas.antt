@@ -2,7 +2,6 @@
 use Rattle.std.proofs.Common.{ℕ, List}
 use Rattle.job_reader.specs.Finding.{JobView}
 use Rattle.copland_cli.specs.Appraised.{HasNoUpgrade, HasNoVerdicts, IsOfUpgrade, IsOfVerdicts}
-use Rattle.copland_cli.specs.Commands.{IsBuilt}
 use Rattle.copland_cli.specs.Meaning.{IsDecisive, IsReport, RefusesJob}
 use Rattle.copland_cli.specs.Reported.{Failing, Giving, Starving}
 use Rattle.copland_cli.specs.Command.{Command, Check, Shape, Events, Code, Eval, Walk, Order, Choose, Attest, Appraise, Upgrade, Load}
@@ -31,16 +30,16 @@ of_upgrade job = record {
   not_both = λ why text ending h report. upgrade_none job report.offer why report.offered report.found h;
 }
 
-pub decisive : (Gives : Giving) (Fails : Failing) (Starves : Starving) (command : Command) (job : JobView) → IsBuilt command → IsDecisive (RefusesJob Gives Fails command job) (IsReport Gives Fails Starves command job)
-decisive Gives Fails Starves Check job built = none_refused (IsReport Gives Fails Starves Check job)
-decisive Gives Fails Starves Shape job built = none_refused (IsReport Gives Fails Starves Shape job)
-decisive Gives Fails Starves Events job built = none_refused (IsReport Gives Fails Starves Events job)
-decisive Gives Fails Starves Code job built = none_refused (IsReport Gives Fails Starves Code job)
-decisive Gives Fails Starves Eval job built = none_refused (IsReport Gives Fails Starves Eval job)
-decisive Gives Fails Starves (Walk number) job built = none_refused (IsReport Gives Fails Starves (Walk number) job)
-decisive Gives Fails Starves (Order text) job built = none_refused (IsReport Gives Fails Starves (Order text) job)
-decisive Gives Fails Starves (Choose text) job built = none_refused (IsReport Gives Fails Starves (Choose text) job)
-decisive Gives Fails Starves (Attest workers) job built = none_refused (IsReport Gives Fails Starves (Attest workers) job)
-decisive Gives Fails Starves Appraise job built = of_verdicts job
-decisive Gives Fails Starves Upgrade job built = of_upgrade job
-decisive Gives Fails Starves (Load number) job built = absurd built
+pub decisive : (Gives : Giving) (Fails : Failing) (Starves : Starving) (command : Command) (job : JobView) → IsDecisive (RefusesJob Gives Fails command job) (IsReport Gives Fails Starves command job)
+decisive Gives Fails Starves Check job = none_refused (IsReport Gives Fails Starves Check job)
+decisive Gives Fails Starves Shape job = none_refused (IsReport Gives Fails Starves Shape job)
+decisive Gives Fails Starves Events job = none_refused (IsReport Gives Fails Starves Events job)
+decisive Gives Fails Starves Code job = none_refused (IsReport Gives Fails Starves Code job)
+decisive Gives Fails Starves Eval job = none_refused (IsReport Gives Fails Starves Eval job)
+decisive Gives Fails Starves (Walk number) job = none_refused (IsReport Gives Fails Starves (Walk number) job)
+decisive Gives Fails Starves (Order text) job = none_refused (IsReport Gives Fails Starves (Order text) job)
+decisive Gives Fails Starves (Choose text) job = none_refused (IsReport Gives Fails Starves (Choose text) job)
+decisive Gives Fails Starves (Attest workers) job = none_refused (IsReport Gives Fails Starves (Attest workers) job)
+decisive Gives Fails Starves Appraise job = of_verdicts job
+decisive Gives Fails Starves Upgrade job = of_upgrade job
+decisive Gives Fails Starves (Load number) job = none_refused (IsReport Gives Fails Starves (Load number) job)

@@ -4,7 +4,6 @@ use Rattle.std.specs.Prelude.{◌≢◌, codes, decimal, nat_eq, if◌then◌els
 use lib.Pointwise.{pointwise}
 use Rattle.std.proofs.lemmas.Fmt.{decimal_injective}
 use Rattle.copland_cli.specs.Command.{Command, Check, Shape, Events, Code, Eval, Walk, Order, Choose, Attest, Appraise, Upgrade, Load}
-use Rattle.copland_cli.specs.Commands.{IsBuilt}
 use Rattle.copland_cli.specs.Words.{Spells}
 
 -- commands without their numbers and texts
@@ -186,11 +185,6 @@ one_command words one other h k =
     ∙ ap (λ n. command_of (kind_of other) n (last_of one)) number
     ∙ ap (λ w. command_of (kind_of other) (number_of other) w) last
     ∙ parts other
-
--- the words of a command that is built are those of no command that isn't
-pub built-unbuilt : (words : List (List ℕ)) (command other : Command) → Spells words command → IsBuilt command → Spells words other → ¬ IsBuilt other → ⊥
-built-unbuilt words command other spelled built again unbuilt =
-    unbuilt (subst (λ (c : Command). IsBuilt c) (one_command words command other spelled again) built)
 
 -- the workers of words that spell a command are those of the command
 pub workers_in : (words : List (List ℕ)) (command : Command) (found : Option ℕ) → Spells words command → MatchOption found ((workers : ℕ) → command ≢ Attest workers) (λ workers. command ≡ Attest workers) → MatchOption found ((workers : ℕ) → ¬ Spells words (Attest workers)) (λ workers. Spells words (Attest workers))

@@ -10,7 +10,7 @@ use Rattle.job_reader.specs.declared.refusal.JobError.TheVariants as errors
 use Rattle.report_text.specs.Refusal.{line_of}
 use Rattle.report_text.specs.declared.refusal.Refusal.{Refusal}
 use Rattle.report_text.specs.declared.refusal.Refusal.TheVariants as refusals
-use Rattle.copland_cli.specs.Commands.{IsBuilt, input_of}
+use Rattle.copland_cli.specs.Commands.{input_of}
 use Rattle.copland_cli.specs.Concluded.{IsConcluded}
 use Rattle.copland_cli.specs.Input.{IsMade, is_required}
 use Rattle.copland_cli.specs.Meaning.{RefusesJob}
@@ -27,7 +27,7 @@ use Rattle.copland_cli.specs.declared.outcome.Outcome.{Outcome}
 use Rattle.copland_cli.specs.declared.outcome.Report.{Report}
 use Rattle.copland_cli.specs.declared.outcome.Outcome.TheVariants.{Refused, Reported}
 use Rattle.copland_cli.specs.declared.status.Status.{Status}
-use Rattle.copland_cli.specs.declared.status.Status.TheVariants.{Good, SomeFailed, ClaimBroken, Denied, Rejected, BadWords, ReadFault, TooLong, NotJson, BadJob, RepeatedPlace, RepeatedArtefact, RepeatedReference, BadRoot, RepeatedNonce, BadPhrase, Misplaced, Oversize, NoReference, Ambiguous, BadBundle, WriteFault, NoMemory, Unbuilt}
+use Rattle.copland_cli.specs.declared.status.Status.TheVariants.{Good, SomeFailed, ClaimBroken, Denied, Rejected, BadWords, ReadFault, TooLong, NotJson, BadJob, RepeatedPlace, RepeatedArtefact, RepeatedReference, BadRoot, RepeatedNonce, BadPhrase, Misplaced, Oversize, NoReference, Ambiguous, BadBundle, WriteFault, NoMemory}
 
 -- some outcome, decided so and concluded so
 abbrev pub IsAnswer : (Outcome → Type 0) → Port → Status → Type 0
@@ -79,7 +79,6 @@ HasCause Decided sink BadBundle =
     ⊎ ((node : ℕ) × RefusesWith Decided sink (refusals.BadShape node))
 HasCause Decided sink WriteFault = (report : Report) × Decided (Reported report) × TookFront sink report.text
 HasCause Decided sink NoMemory = RefusesWith Decided sink refusals.NoMemory
-HasCause Decided sink Unbuilt = RefusesWith Decided sink refusals.Unbuilt
 
 -- ---- exactly where
 
@@ -104,13 +103,13 @@ ComesAt Gives Fails command sink (accepted job) status =
     ((why : Refusal) → RefusesJob Gives Fails command job why → status ≡ status_of why)
     × (((why : Refusal) → ¬ RefusesJob Gives Fails command job why) → IsReported sink status)
 
--- where the source met no fault and memory sufficed, the answer to the words of a command that is built is
--- the one for which the command's input calls
+-- where the source met no fault and memory sufficed, the answer to the words of a command is the one for which
+-- the command's input calls
 abbrev pub IsExact : (Command → Type 0) → Giving → Failing → List (List ℕ) → Port → Port → Status → Type 0
 IsExact Known Gives Fails words source sink status =
-    (command : Command) (finding : Finding) → Spells words command → Known command → IsBuilt command → ¬ MetFault source → status ≢ NoMemory → IsGiven (input_of command) command source finding → ComesAt Gives Fails command sink finding status
+    (command : Command) (finding : Finding) → Spells words command → Known command → ¬ MetFault source → status ≢ NoMemory → IsGiven (input_of command) command source finding → ComesAt Gives Fails command sink finding status
 
 -- a source that tells its bytes gave too many of them exactly where the answer says so
 abbrev pub IsTooLongExactly : (Command → Type 0) → List (List ℕ) → Port → Status → Type 0
 IsTooLongExactly Known words source status =
-    (command : Command) (left : List ℕ) → Spells words command → Known command → IsBuilt command → source.bytes_before ≡ Some left → (status ≡ TooLong) ↔ IsTooLong source
+    (command : Command) (left : List ℕ) → Spells words command → Known command → source.bytes_before ≡ Some left → (status ≡ TooLong) ↔ IsTooLong source

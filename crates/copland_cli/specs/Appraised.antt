@@ -17,7 +17,7 @@ use Rattle.job_reader.specs.Finding.{JobView}
 use Rattle.job_reader.specs.declared.accepted.BundleIn.{BundleIn}
 use Rattle.report_text.specs.Verdicts.{upgrade_text, verdicts_text}
 use Rattle.report_text.specs.declared.refusal.Refusal.{Refusal}
-use Rattle.report_text.specs.declared.refusal.Refusal.TheVariants.{NoReference, Ambiguous, BadBundle, BadShape}
+use Rattle.report_text.specs.declared.refusal.Refusal.TheVariants.{Words, ReadFault, TooLong, Job, NoReference, Ambiguous, BadBundle, BadShape, NoMemory}
 use Rattle.copland_cli.specs.declared.ending.Ending.{Ending}
 use Rattle.copland_cli.specs.declared.ending.Ending.TheVariants.{Good, Rejected}
 
@@ -52,18 +52,30 @@ HasValue job offer = IsFound job.places offer.bundle.bytes (shape_in offer) None
 -- why bytes have no value of a shape: the first fault of bytes that are no bundle of either version, or the
 -- first node that does not fit
 abbrev pub HasNoValue : List PlaceEntry → List ℕ → Form → Refusal → Type 0
+HasNoValue places bytes shape Words = ⊥
+HasNoValue places bytes shape ReadFault = ⊥
+HasNoValue places bytes shape TooLong = ⊥
+HasNoValue places bytes shape (Job error) = ⊥
+HasNoValue places bytes shape (NoReference event) = ⊥
+HasNoValue places bytes shape (Ambiguous event) = ⊥
 HasNoValue places bytes shape (BadBundle at kind) = first_fault_of_either bytes ≡ Some (fault at kind)
 HasNoValue places bytes shape (BadShape node) = IsFound places bytes shape (Some node)
-HasNoValue places bytes shape _ = ⊥
+HasNoValue places bytes shape NoMemory = ⊥
 
 -- why a shape's references don't do: the least event of a measurement that has none; or else the least one of a
 -- measurement under a hash that has several
 abbrev pub LacksReferences : List Reference → Form → Refusal → Type 0
+LacksReferences references shape Words = ⊥
+LacksReferences references shape ReadFault = ⊥
+LacksReferences references shape TooLong = ⊥
+LacksReferences references shape (Job error) = ⊥
 LacksReferences references shape (NoReference event) = least_event (has_none references) (leaves shape) ≡ Some event
 LacksReferences references shape (Ambiguous event) =
     (least_event (has_none references) (leaves shape) ≡ None)
     × (least_event (has_several references) (hashed_leaves shape) ≡ Some event)
-LacksReferences references shape _ = ⊥
+LacksReferences references shape (BadBundle at kind) = ⊥
+LacksReferences references shape (BadShape node) = ⊥
+LacksReferences references shape NoMemory = ⊥
 
 -- why there are no verdicts: the references don't do; or they do, and the bytes have no value of the shape
 abbrev pub HasNoVerdict : List PlaceEntry → List Reference → List ℕ → Form → Refusal → Type 0

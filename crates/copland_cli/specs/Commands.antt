@@ -1,4 +1,4 @@
--- Which commands are known where, which are built, and what each reads.
+-- Which commands are known where, and what each reads.
 use Rattle.copland_cli.specs.Command.{Command, Check, Shape, Events, Code, Eval, Walk, Order, Choose, Attest, Appraise, Upgrade, Load}
 use Rattle.copland_cli.specs.declared.input.BundleNeed.TheVariants.{Optional, Required}
 use Rattle.copland_cli.specs.declared.input.Input.{Input}
@@ -22,21 +22,6 @@ IsPlain (Load number) = Unit {0}
 -- with threads every command runs
 abbrev pub IsAny : Command → Type 0
 IsAny command = Unit {0}
-
--- the command is built
-abbrev pub IsBuilt : Command → Type 0
-IsBuilt Check = Unit {0}
-IsBuilt Shape = Unit {0}
-IsBuilt Events = Unit {0}
-IsBuilt Code = Unit {0}
-IsBuilt Eval = Unit {0}
-IsBuilt (Walk number) = Unit {0}
-IsBuilt (Order text) = Unit {0}
-IsBuilt (Choose text) = Unit {0}
-IsBuilt (Attest workers) = Unit {0}
-IsBuilt Appraise = Unit {0}
-IsBuilt Upgrade = Unit {0}
-IsBuilt (Load number) = ⊥
 
 -- what a command reads
 abbrev pub input_of : Command → Input

@@ -3,15 +3,16 @@ use Rattle.std.specs.Prelude.{◌≡◌, ◌⊎◌, ℕ, List, Bool, true, false
 use Rattle.job_reader.specs.Finding.{Finding, IsFinding, JobView, accepted, refused}
 use Rattle.job_reader.specs.declared.refusal.JobError.{JobError}
 use Rattle.job_reader.specs.declared.refusal.JobError.TheVariants as errors
+use Rattle.load_maker.specs.Job.{made_job}
 use Rattle.report_text.specs.declared.refusal.Refusal.{Refusal}
-use Rattle.report_text.specs.declared.refusal.Refusal.TheVariants.{Words, Unbuilt, ReadFault, TooLong, Job as JobRefused, NoReference, Ambiguous, BadBundle, BadShape, NoMemory}
+use Rattle.report_text.specs.declared.refusal.Refusal.TheVariants.{Words, ReadFault, TooLong, Job as JobRefused, NoReference, Ambiguous, BadBundle, BadShape, NoMemory}
 use Rattle.copland_cli.specs.Commands.{input_of}
 use Rattle.copland_cli.specs.Port.{Port, MetFault, IsTooLong, IsUnread, IsWhole, IsWithin}
 use Rattle.copland_cli.specs.declared.input.BundleNeed.{BundleNeed}
 use Rattle.copland_cli.specs.declared.input.BundleNeed.TheVariants.{Optional, Required}
 use Rattle.copland_cli.specs.declared.input.Input.{Input}
 use Rattle.copland_cli.specs.declared.input.Input.TheVariants.{Nothing, Job}
-use Rattle.copland_cli.specs.Command.{Command}
+use Rattle.copland_cli.specs.Command.{Command, Check, Shape, Events, Code, Eval, Walk, Order, Choose, Attest, Appraise, Upgrade, Load}
 
 -- the job must have a bundle
 abbrev pub is_required : BundleNeed → Bool
@@ -26,7 +27,6 @@ pub record IsSolely (bytes : List ℕ) (need : BundleNeed) (finding : Finding) :
 -- why these bytes are no accepted job: the refusal of the job; or there was no memory
 abbrev pub IsRefusedOver : List ℕ → BundleNeed → Refusal → Type 0
 IsRefusedOver bytes need Words = ⊥
-IsRefusedOver bytes need Unbuilt = ⊥
 IsRefusedOver bytes need ReadFault = ⊥
 IsRefusedOver bytes need TooLong = ⊥
 IsRefusedOver bytes need (JobRefused error) = IsSolely bytes need (refused error)
@@ -45,9 +45,20 @@ IsRefusalFor error why =
 abbrev pub IsReadAs : BundleNeed → Port → Finding → Type 0
 IsReadAs need source finding = (bytes : List ℕ) × IsWhole source bytes × IsSolely bytes need finding
 
--- the job that a command makes by itself: no command of today does
+-- the job that a command makes by itself
 abbrev pub IsMade : Command → JobView → Type 0
-IsMade command job = ⊥
+IsMade Check job = ⊥
+IsMade Shape job = ⊥
+IsMade Events job = ⊥
+IsMade Code job = ⊥
+IsMade Eval job = ⊥
+IsMade (Walk number) job = ⊥
+IsMade (Order text) job = ⊥
+IsMade (Choose text) job = ⊥
+IsMade (Attest workers) job = ⊥
+IsMade Appraise job = ⊥
+IsMade Upgrade job = ⊥
+IsMade (Load number) job = job ≡ made_job number
 
 -- the job that a command is about: the accepted job that was read, or the one that the command makes, and
 -- then the source wasn't read
@@ -62,7 +73,6 @@ IsSubject command source job = IsSubjectBy (input_of command) command source job
 -- than an input may have; too long an input; or the refusal of the job
 abbrev pub IsUnreadable : BundleNeed → Port → Refusal → Type 0
 IsUnreadable need source Words = ⊥
-IsUnreadable need source Unbuilt = ⊥
 IsUnreadable need source ReadFault = MetFault source × IsWithin source
 IsUnreadable need source TooLong = IsTooLong source
 IsUnreadable need source (JobRefused error) = IsReadAs need source (refused error)

@@ -12,6 +12,7 @@ pub mod Chosen
 pub mod Attested
 pub mod Appraised
 pub mod Offered
+pub mod Loaded
 pub mod Meaning
 pub mod Upgraded
 pub mod Digests

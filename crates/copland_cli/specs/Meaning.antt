@@ -6,9 +6,10 @@ use Rattle.session_model.specs.Record.{Record}
 use Rattle.job_reader.specs.Finding.{JobView}
 use Rattle.report_text.specs.Records.{values_text}
 use Rattle.report_text.specs.declared.refusal.Refusal.{Refusal}
-use Rattle.report_text.specs.declared.refusal.Refusal.TheVariants.{Words, Unbuilt, ReadFault, TooLong, Job, NoReference, Ambiguous, BadBundle, BadShape, NoMemory}
+use Rattle.report_text.specs.declared.refusal.Refusal.TheVariants.{Words, ReadFault, TooLong, Job, NoReference, Ambiguous, BadBundle, BadShape, NoMemory}
 use Rattle.copland_cli.specs.Chosen.{IsOfChoice}
 use Rattle.copland_cli.specs.Appraised.{HasNoUpgrade, HasNoVerdicts, IsOfUpgrade, IsOfVerdicts}
+use Rattle.copland_cli.specs.Loaded.{IsOfLoad}
 use Rattle.copland_cli.specs.Ordered.{IsOfClaims}
 use Rattle.copland_cli.specs.Attested.{IsOfAttestations}
 use Rattle.copland_cli.specs.Reported.{Failing, Giving, Starving, IsOfRecords, IsOfWalk, SaysOfEach, aspect_text}
@@ -41,6 +42,11 @@ abbrev pub IsOfWalkIn : Giving → Failing → Starving → JobView → ℕ → 
 IsOfWalkIn Gives Fails Starves job number text ending =
     IsOfWalk (Gives job.artefacts) (Fails job.artefacts) (Starves job.artefacts) job.places job.sessions number text ending
 
+-- the report is what is counted of the sessions of a job, under a number
+abbrev pub IsOfLoadIn : Giving → Failing → JobView → ℕ → List ℕ → Ending → Type 0
+IsOfLoadIn Gives Fails job number text ending =
+    IsOfLoad (Gives job.artefacts) (Fails job.artefacts) job number text ending
+
 -- the text is a report of the command on an accepted job, and ends so
 abbrev pub IsReport : Giving → Failing → Starving → Command → JobView → List ℕ → Ending → Type 0
 IsReport Gives Fails Starves Check job text ending = SaysOfEach (aspect_text aspects.Check) job.sessions text ending
@@ -54,12 +60,11 @@ IsReport Gives Fails Starves (Choose policy) job text ending = IsOfChoice policy
 IsReport Gives Fails Starves (Attest workers) job text ending = IsOfAttestations Gives Fails job text ending
 IsReport Gives Fails Starves Appraise job text ending = IsOfVerdicts job text ending
 IsReport Gives Fails Starves Upgrade job text ending = IsOfUpgrade job text ending
-IsReport Gives Fails Starves (Load number) job text ending = ⊥
+IsReport Gives Fails Starves (Load number) job text ending = IsOfLoadIn Gives Fails job number text ending
 
 -- the refusal is one that a command may have after those of the job
 abbrev pub IsOfMeaning : Refusal → Type 0
 IsOfMeaning Words = ⊥
-IsOfMeaning Unbuilt = ⊥
 IsOfMeaning ReadFault = ⊥
 IsOfMeaning TooLong = ⊥
 IsOfMeaning (Job error) = ⊥

@@ -37,7 +37,7 @@ HasNeeded Optional job = Unit {0}
 HasNeeded Required job = IsForAppraisal job
 
 abbrev pub HasNeededBy : Input → JobView → Type 0
-HasNeededBy Nothing job = Unit {0}
+HasNeededBy Nothing job = ⊥
 HasNeededBy (Job need) job = HasNeeded need job
 
 -- the session is within the limits, and each of its events happens at a place that has a key

@@ -7,7 +7,7 @@ use Rattle.report_text.specs.declared.refusal.Refusal.TheVariants as refusals
 use Rattle.copland_cli.specs.declared.ending.Ending.{Ending}
 use Rattle.copland_cli.specs.declared.ending.Ending.TheVariants as endings
 use Rattle.copland_cli.specs.declared.status.Status.{Status}
-use Rattle.copland_cli.specs.declared.status.Status.TheVariants.{Good, SomeFailed, ClaimBroken, Denied, Rejected, BadWords, ReadFault, TooLong, NotJson, BadJob, RepeatedPlace, RepeatedArtefact, RepeatedReference, BadRoot, RepeatedNonce, BadPhrase, Misplaced, Oversize, NoReference, Ambiguous, BadBundle, WriteFault, NoMemory, Unbuilt}
+use Rattle.copland_cli.specs.declared.status.Status.TheVariants.{Good, SomeFailed, ClaimBroken, Denied, Rejected, BadWords, ReadFault, TooLong, NotJson, BadJob, RepeatedPlace, RepeatedArtefact, RepeatedReference, BadRoot, RepeatedNonce, BadPhrase, Misplaced, Oversize, NoReference, Ambiguous, BadBundle, WriteFault, NoMemory}
 
 -- the exit status of each answer
 abbrev pub code_of : Status → ℕ
@@ -34,7 +34,6 @@ code_of Ambiguous = 14
 code_of BadBundle = 10
 code_of WriteFault = 11
 code_of NoMemory = 12
-code_of Unbuilt = 13
 
 -- the answer at a refusal of a job
 abbrev pub job_status : JobError → Status
@@ -53,7 +52,6 @@ job_status errors.NoMemory = NoMemory
 -- the answer at a refusal
 abbrev pub status_of : Refusal → Status
 status_of refusals.Words = BadWords
-status_of refusals.Unbuilt = Unbuilt
 status_of refusals.ReadFault = ReadFault
 status_of refusals.TooLong = TooLong
 status_of (refusals.Job error) = job_status error

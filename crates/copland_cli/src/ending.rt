@@ -1,6 +1,7 @@
 ghost use Rattle.std.specs.Prelude.{◌≡◌};
 ghost use Rattle.copland_cli.specs.Appraised.{ending_of_verdicts};
 ghost use Rattle.copland_cli.specs.Chosen.{ending_of_choice};
+ghost use Rattle.copland_cli.specs.Loaded.{ending_of_load};
 ghost use Rattle.copland_cli.specs.Ordered.{ending_of_claims};
 ghost use Rattle.copland_cli.specs.Reported.{ending_of};
 ghost use Rattle.copland_cli.specs.Status.{ending_status};
@@ -11,7 +12,7 @@ use crate::status::Status;
 #[derive(Clone, Copy, Debug, PartialEq, Eq)]
 pub enum Ending {
     Good,
-    /// A session in it failed.
+    /// A session in it failed, or one of a made job isn't accepted.
     SomeFailed,
     /// A claim in it is broken.
     ClaimBroken,
@@ -30,6 +31,17 @@ impl Ending {
             Ending::SomeFailed
         } else {
             Ending::Good
+        }
+    }
+
+    /// The ending of a report on a made job, by whether each session is done and accepted.
+    pub fn of_load(all_accepted: bool) -> Ending
+        ensures { result ≡ ending_of_load all_accepted }
+    {
+        if all_accepted {
+            Ending::Good
+        } else {
+            Ending::SomeFailed
         }
     }
 

@@ -2,29 +2,32 @@
 
 ghost use Rattle.std.specs.Prelude.{◌≡◌, ℕ, List, false};
 ghost use Rattle.job_reader.specs.Finding.{JobView, IsAccepted};
+ghost use Rattle.load_maker.specs.Job.{made_job};
 ghost use Rattle.report_text.specs.Records.{records_text, values_text};
 ghost use Rattle.copland_cli.specs.Alike.{DifferInTraces};
-ghost use Rattle.copland_cli.specs.Commands.{IsBuilt, IsPlain};
+ghost use Rattle.copland_cli.specs.Commands.{IsPlain};
 ghost use Rattle.copland_cli.specs.Digests.{DigestGives, DigestFails, DigestStarves, IsDoneWhereThere};
 ghost use Rattle.copland_cli.specs.Input.{is_required};
+ghost use Rattle.copland_cli.specs.Loaded.{HasAcceptedAll};
 ghost use Rattle.copland_cli.specs.Meaning.{IsDecisive, IsReport, RefusesJob};
 ghost use Rattle.copland_cli.specs.declared.ending.Ending.{Ending};
 ghost use Rattle.copland_cli.specs.declared.input.BundleNeed.{BundleNeed};
-ghost use Rattle.copland_cli.specs.Command.{Command, Attest, Eval, Upgrade, Walk};
+ghost use Rattle.copland_cli.specs.Command.{Command, Attest, Eval, Load, Upgrade, Walk};
 ghost use Rattle.copland_cli.specs.Upgraded.{IsUpgraded};
 
 use bench_trait::Bench;
 use job_reader::one_finding;
+use load_runner::made_jobs_are_accepted;
 use order_policy::{judged_law, policy_law};
 use plain_eval::digests_make_one_record;
 use release_policy::reading_law;
 use session_walk::digests_make_one_walk;
 
-/// A command that is built has at most one refusal of an accepted job after the job's own, and never
+/// A command has at most one refusal of an accepted job after the job's own, and never
 /// both that refusal and a report.
 pub fn commands_are_decisive<B: Bench>()
-    ensures { (bench : B) (command : Command) (job : JobView) → IsBuilt command
-        → IsDecisive (RefusesJob (B.gives bench) (B.fails bench) command job)
+    ensures { (bench : B) (command : Command) (job : JobView) →
+        IsDecisive (RefusesJob (B.gives bench) (B.fails bench) command job)
         (IsReport (B.gives bench) (B.fails bench) (B.starves bench) command job) }
 {}
 
@@ -32,7 +35,7 @@ pub fn commands_are_decisive<B: Bench>()
 /// on jobs of the same bytes are the same, and end the same.
 pub fn reports_follow_from_bytes(_bytes: &[u8])
     ensures { (command : Command) (need : BundleNeed) (job other : JobView) (text written : List ℕ) (ending ended : Ending) →
-        IsBuilt command → IsPlain command →
+        IsPlain command →
         IsAccepted _bytes.now (is_required need) job → IsAccepted _bytes.now (is_required need) other →
         IsReport DigestGives DigestFails DigestStarves command job text ending →
         IsReport DigestGives DigestFails DigestStarves command other written ended →
@@ -86,3 +89,13 @@ pub fn upgrades_have_the_same_verdicts<B: Bench>()
     ensures { (bench : B) (job : JobView) (text : List ℕ) (ending : Ending) →
         IsReport (B.gives bench) (B.fails bench) (B.starves bench) Upgrade job text ending → IsUpgraded job text }
 {}
+
+/// Over `DigestBench`, `load` reports of each made job that each of its 256 sessions is done and accepted, and is
+/// good.
+pub fn loads_are_accepted()
+    ensures { (number : ℕ) (text : List ℕ) (ending : Ending) →
+        IsReport DigestGives DigestFails DigestStarves (Load number) (made_job number) text ending →
+        HasAcceptedAll number text ending }
+{
+    made_jobs_are_accepted();
+}

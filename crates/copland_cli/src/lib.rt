@@ -20,6 +20,9 @@ mod input;
 #[cfg(test)]
 mod job_tests;
 mod laws;
+mod load;
+#[cfg(test)]
+mod load_tests;
 mod offer;
 mod order;
 #[cfg(test)]
@@ -42,8 +45,9 @@ mod walk_tests;
 mod words;
 
 pub use laws::{
-    attested_reports_differ_in_traces, commands_are_decisive, reports_follow_from_bytes,
-    sessions_are_done_where_artefacts_are_there, upgrades_have_the_same_verdicts,
+    attested_reports_differ_in_traces, commands_are_decisive, loads_are_accepted,
+    reports_follow_from_bytes, sessions_are_done_where_artefacts_are_there,
+    upgrades_have_the_same_verdicts,
 };
 pub use plain::{plain_top, refuse};
 pub use status::Status;

@@ -1,13 +1,14 @@
-ghost use Rattle.std.specs.Prelude.{◌≤◌, ◌↔◌, IsTrue, IfOk, length};
+ghost use Rattle.std.specs.Prelude.{◌≡◌, ◌≤◌, IfOk, length};
 ghost use Rattle.job_reader.specs.Accepted.{HasCheckedSessions, job_view};
 ghost use Rattle.report_text.specs.Records.{values_text};
 ghost use Rattle.copland_cli.specs.Chosen.{IsOfChoice};
 ghost use Rattle.copland_cli.specs.Command.{command_view};
-ghost use Rattle.copland_cli.specs.Commands.{IsBuilt, IsOfAny, IsPlain, input_of};
+ghost use Rattle.copland_cli.specs.Commands.{IsOfAny, IsPlain, input_of};
 ghost use Rattle.copland_cli.specs.Meaning.{IsOfRecordsIn, IsOfWalkIn, IsReport};
 ghost use Rattle.copland_cli.specs.Ordered.{IsOfClaims};
 ghost use Rattle.copland_cli.specs.Offered.{HasNeededBy};
-ghost use Rattle.copland_cli.specs.Outcome.{IsDecided, IsMeant, IsRun};
+ghost use Rattle.copland_cli.specs.Outcome.{IsDecided, IsMadeRun, IsMeant, IsRun};
+ghost use Rattle.copland_cli.specs.declared.input.Input.{Input};
 ghost use Rattle.copland_cli.specs.Port.{port};
 ghost use Rattle.copland_cli.specs.Reported.{SaysOfEach, aspect_text};
 ghost use Rattle.copland_cli.specs.Words.{texts};
@@ -17,6 +18,7 @@ use crate::choose::{choice_text, choose_among};
 use crate::ending::Ending;
 use crate::evaluate::values_of;
 use crate::input::{Input, read_job};
+use crate::load::load;
 use crate::order::judge_each;
 use crate::session::{Aspect, push_aspect, some_failed, walked};
 use crate::upgrade::upgrade_bundle;
@@ -57,24 +59,7 @@ pub fn decide<S: Source, B: Bench>(
 {
     match command_of(words) {
         Some(Command::Attest(_)) | None => Outcome::Refused(Refusal::Words),
-        Some(command) => {
-            if is_built(command) {
-                run(alloc, command, source, bench)
-            } else {
-                Outcome::Refused(Refusal::Unbuilt)
-            }
-        }
-    }
-}
-
-fn is_built(command: Command<'_>) -> bool
-    ensures { IsTrue result ↔ IsBuilt (command_view command.entry) }
-{
-    match command {
-        Command::Check | Command::Shape | Command::Events | Command::Code => true,
-        Command::Eval | Command::Walk(_) | Command::Order(_) | Command::Choose(_) => true,
-        Command::Appraise | Command::Upgrade | Command::Attest(_) => true,
-        Command::Load(_) => false,
+        Some(command) => run(alloc, command, source, bench),
     }
 }
 
@@ -85,14 +70,13 @@ fn run<S: Source, B: Bench>(
     source: &mut S,
     bench: &B,
 ) -> Outcome
-    requires built { IsBuilt (command_view command) }
-    requires plain { IsPlain (command_view command) }
+    requires { IsPlain (command_view command) }
     ensures { IsRun (B.gives bench.now) (B.fails bench.now) (B.starves bench.now) (command_view command.entry)
         (port S.left S.faults source.old source.new)
         result }
 {
     match command.input() {
-        Input::Nothing => unreachable!(),
+        Input::Nothing => run_alone(alloc, command, bench),
         Input::Job(need) => match read_job(alloc, source, need) {
             Ok(job) => run_over(alloc, command, &job, bench),
             Err(refusal) => Outcome::Refused(refusal),
@@ -100,9 +84,23 @@ fn run<S: Source, B: Bench>(
     }
 }
 
+/// Carries out a command that reads nothing, over the job that it makes.
+fn run_alone<B: Bench>(alloc: Global, command: Command<'_>, bench: &B) -> Outcome
+    requires { input_of (command_view command) ≡ Input.Nothing }
+    ensures { IsMadeRun (B.gives bench.now) (B.fails bench.now) (B.starves bench.now) (command_view command.entry) result }
+{
+    match command {
+        Command::Load(number) => load(alloc, number, bench),
+        Command::Check | Command::Shape | Command::Events | Command::Code => unreachable!(),
+        Command::Eval | Command::Walk(_) | Command::Order(_) | Command::Choose(_) => {
+            unreachable!()
+        }
+        Command::Attest(_) | Command::Appraise | Command::Upgrade => unreachable!(),
+    }
+}
+
 /// Carries out a command over an accepted job.
 fn run_over<B: Bench>(alloc: Global, command: Command<'_>, job: &Job, bench: &B) -> Outcome
-    requires built { IsBuilt (command_view command) }
     requires plain { IsPlain (command_view command) }
     requires checked { HasCheckedSessions job.now }
     requires few { length job.now.sessions.items ≤ 256 }
@@ -130,7 +128,6 @@ fn run_over<B: Bench>(alloc: Global, command: Command<'_>, job: &Job, bench: &B)
 
 /// Carries out a command that needs no bundle over an accepted job.
 fn run_over_any<B: Bench>(alloc: Global, command: Command<'_>, job: &Job, bench: &B) -> Outcome
-    requires built { IsBuilt (command_view command) }
     requires plain { IsPlain (command_view command) }
     requires any { IsOfAny (input_of (command_view command)) }
     requires checked { HasCheckedSessions job.now }
@@ -150,7 +147,6 @@ fn report_on<B: Bench>(
     job: &Job,
     bench: &B,
 ) -> Result<Report, NoMemory>
-    requires built { IsBuilt (command_view command) }
     requires plain { IsPlain (command_view command) }
     requires any { IsOfAny (input_of (command_view command)) }
     requires checked { HasCheckedSessions job.now }

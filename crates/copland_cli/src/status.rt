@@ -9,7 +9,7 @@ use report_text::Refusal;
 pub enum Status {
     /// The report was written whole.
     Good,
-    /// The report was written whole, and a session in it failed.
+    /// The report was written whole, and a session in it failed, or one of a made job isn't accepted.
     SomeFailed,
     /// The report was written whole, and a claim in it is broken.
     ClaimBroken,
@@ -48,8 +48,6 @@ pub enum Status {
     /// The sink met a fault while the report was written.
     WriteFault,
     NoMemory,
-    /// The command is not built yet.
-    Unbuilt,
 }
 
 impl Status {
@@ -77,7 +75,6 @@ impl Status {
             Status::BadBundle => 10,
             Status::WriteFault => 11,
             Status::NoMemory => 12,
-            Status::Unbuilt => 13,
         }
     }
 }
@@ -88,7 +85,6 @@ pub fn status_of(refusal: &Refusal) -> Status
 {
     match refusal {
         Refusal::Words => Status::BadWords,
-        Refusal::Unbuilt => Status::Unbuilt,
         Refusal::ReadFault => Status::ReadFault,
         Refusal::TooLong => Status::TooLong,
         Refusal::Job(error) => job_status(error),

@@ -1,6 +1,7 @@
 use crate::laws::{
-    attested_reports_differ_in_traces, commands_are_decisive, reports_follow_from_bytes,
-    sessions_are_done_where_artefacts_are_there, upgrades_have_the_same_verdicts,
+    attested_reports_differ_in_traces, commands_are_decisive, loads_are_accepted,
+    reports_follow_from_bytes, sessions_are_done_where_artefacts_are_there,
+    upgrades_have_the_same_verdicts,
 };
 use crate::status::Status;
 use crate::test_runs::{
@@ -40,11 +41,12 @@ fn words_are_told_apart(rt: HostRuntime) -> Result<(), Fail> {
         "attest --workers 2",
         "Walk 0",
         "load",
+        "load 00",
+        "load 4294967296",
+        "load 7 7",
         "--help",
     ];
     expect_words(&rt, alloc, &wrong, (Status::BadWords, "error: words\n"))?;
-    let unbuilt = ["load 0", "load 4294967295"];
-    expect_words(&rt, alloc, &unbuilt, (Status::Unbuilt, "error: unbuilt\n"))?;
     let walks = ["walk 0", "walk 1", "walk 4294967295"];
     expect_words(&rt, alloc, &walks, (Status::NotJson, "error: not json\n"))
 }
@@ -398,7 +400,6 @@ fn each_status_has_its_code(rt: HostRuntime) {
         (Status::BadBundle, 10),
         (Status::WriteFault, 11),
         (Status::NoMemory, 12),
-        (Status::Unbuilt, 13),
     ];
     expect_codes(&rt, &table);
 }
@@ -407,6 +408,7 @@ fn each_status_has_its_code(rt: HostRuntime) {
 fn laws_are_called(_rt: HostRuntime) {
     commands_are_decisive::<DigestBench>();
     upgrades_have_the_same_verdicts::<DigestBench>();
+    loads_are_accepted();
     reports_follow_from_bytes(b"{}");
     sessions_are_done_where_artefacts_are_there();
     attested_reports_differ_in_traces(b"{}");

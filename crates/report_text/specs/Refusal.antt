@@ -8,7 +8,7 @@ use Rattle.job_values.specs.Words.{kind_word, path_text}
 use Rattle.job_reader.specs.declared.refusal.JobError.{JobError}
 use Rattle.job_reader.specs.declared.refusal.JobError.TheVariants as errors
 use Rattle.report_text.specs.declared.refusal.Refusal.{Refusal}
-use Rattle.report_text.specs.declared.refusal.Refusal.TheVariants.{Words, Unbuilt, ReadFault, TooLong, Job, NoReference, Ambiguous, BadBundle, BadShape, NoMemory}
+use Rattle.report_text.specs.declared.refusal.Refusal.TheVariants.{Words, ReadFault, TooLong, Job, NoReference, Ambiguous, BadBundle, BadShape, NoMemory}
 
 -- the end of a line: one number, two numbers, or two numbers and a word
 abbrev pub one_number : ℕ → List ℕ
@@ -37,7 +37,6 @@ job_line errors.NoMemory = codes "error: no memory\n"
 -- the line of a refusal
 abbrev pub line_of : Refusal → List ℕ
 line_of Words = codes "error: words\n"
-line_of Unbuilt = codes "error: unbuilt\n"
 line_of ReadFault = codes "error: read fault\n"
 line_of TooLong = codes "error: input too long\n"
 line_of (Job error) = job_line error

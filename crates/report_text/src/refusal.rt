@@ -19,8 +19,6 @@ use place_check::PlaceKind;
 pub enum Refusal {
     /// The words are not a command.
     Words,
-    /// The command isn't built.
-    Unbuilt,
     /// The source met a fault.
     ReadFault,
     /// The input is longer than a job may be.
@@ -44,7 +42,6 @@ pub fn refusal_line(refusal: &Refusal) -> Line
 {
     match refusal {
         Refusal::Words => Line::of(b"error: words\n"),
-        Refusal::Unbuilt => Line::of(b"error: unbuilt\n"),
         Refusal::ReadFault => Line::of(b"error: read fault\n"),
         Refusal::TooLong => Line::of(b"error: input too long\n"),
         Refusal::Job(error) => job_line(error),

@@ -99,7 +99,6 @@ fn events_are_reported_with_their_direct_predecessors(rt: HostRuntime) -> Result
 #[test]
 fn refusals_of_appraisals_have_their_lines(rt: HostRuntime) {
     for (refusal, line) in [
-        (Refusal::Unbuilt, "error: unbuilt\n"),
         (Refusal::NoReference { event: 0 }, "error: no reference 0\n"),
         (
             Refusal::Ambiguous { event: 0 },

@@ -10,7 +10,7 @@ use Rattle.copland_cli.proofs.FunctionLemmas.{on_one_finding}
 use Rattle.copland_cli.proofs.laws.reports_follow_from_bytes.Goals as goal
 
 pub returns : goal.returns
-returns c = λ command need job other text written ending ended built plain one two h k.
+returns c = λ command need job other text written ending ended plain one two h k.
     on_one_finding DigestGives DigestFails DigestStarves (λ job session record' again a b. c.digests_make_one_record.ensures job.artefacts session (keys_of job.places) record' again a b)
     (λ job number one other a b. c.digests_make_one_walk.ensures job.artefacts (place_names job.places) (keys_of job.places) job.sessions number one other a b)
     (record { policy = c.policy_law.ensures; judged = c.judged_law.ensures; release = c.reading_law.ensures.policy }) command job other text written ending ended plain

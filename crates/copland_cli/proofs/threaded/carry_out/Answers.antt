@@ -7,7 +7,7 @@ use Rattle.copland_cli.proofs.HeadlineLemmas.{answer_of_any}
 use Rattle.copland_cli.proofs.threaded.carry_out.Goals as goal
 
 pub returns-in-Some : goal.returns-in-Some
-returns-in-Some g c = (c.attest-outcome.result, inl (Attest c.in-Some.workers, c.in-Some.ensures, tt, tt, c.attest-outcome.ensures), c.conclude.ensures)
+returns-in-Some g c = (c.attest-outcome.result, inl (Attest c.in-Some.workers, c.in-Some.ensures, tt, c.attest-outcome.ensures), c.conclude.ensures)
 
 pub returns-in-None : goal.returns-in-None
 returns-in-None g c =
