@@ -1,4 +1,4 @@
-ghost use Rattle.std.specs.Prelude.{◌≡◌, length, take, IfOk};
+ghost use Rattle.std.specs.Prelude.{◌≡◌, length, IfOk};
 ghost use Rattle.wire_frames.specs.Frames.{frame_bytes, IsFrame};
 ghost use Rattle.wire_frames.specs.Front.{IsWhole};
 
