@@ -32,7 +32,6 @@ use Rattle.load_maker.proofs.ReferenceLemmas.{is_for_same, kim_same, numbers_sam
 
 -- ---- the one reference of a measurement
 
-
 answers_more : (items : List Reference) (last : Reference) (place : List ℕ) (kind : AskKind) (asp : Asp) → answers_for (items ++ last ∷ []) place kind asp ≡ answers_for items place kind asp ++ cond (is_for place kind asp last) (last.answer ∷ []) []
 answers_more [] last place kind asp = refl
 answers_more (item ∷ items) last place kind asp =
@@ -107,8 +106,8 @@ kim_referred artefacts k j i h f g =
     let middle : m / 8 % 8 ≡ j = omega (arith, h, f, g) in
     let column : m % 8 ≡ i = omega (arith, h, f, g) in
     let is : made_reference artefacts n ≡ kim_reference artefacts m =
-        ap (λ b. cond b (usm_reference artefacts n) (kim_reference artefacts (n - 64))) (le-ltb n 64 (omega arith))
-        ∙ ap (λ x. kim_reference artefacts x) back in
+    ap (λ b. cond b (usm_reference artefacts n) (kim_reference artefacts (n - 64))) (le-ltb n 64 (omega arith))
+    ∙ ap (λ x. kim_reference artefacts x) back in
     let here = subst (λ (one : Reference). answers_for (made_references artefacts) one.place one.kind one.asp ≡ one.answer ∷ []) is (referred_to artefacts n (omega (arith, h, f, g))) in
     subst (λ p. IsReferred artefacts (place_name p) (Kim (place_name j)) (plain_asp i)) row
     (subst (λ q. IsReferred artefacts (place_name (m / 64)) (Kim (place_name q)) (plain_asp i)) middle
