@@ -1,5 +1,5 @@
 -- Transcripts and first faults that were found outside this project: an edit of the definitions is refused here.
-use Rattle.std.proofs.Common.{◌≡◌, ℕ, List, [], ◌∷◌, Ok, Err, refl}
+use Rattle.std.proofs.Common.{◌≡◌, [], ◌∷◌, Ok, Err, refl}
 use Rattle.bench_trait.specs.declared.bench.BenchFault.TheVariants.{Broken}
 use Rattle.session_runs.specs.Standing.{root, of, run, ask, deliver, played, answered, failed}
 use Rattle.transcript.specs.declared.fault.TranscriptKind.TheVariants.{Short, Tag, Length, Name, Rest}

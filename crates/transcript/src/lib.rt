@@ -5,13 +5,19 @@
 //! of `specs/Reading.antt`, and a law says that they agree. The format is this project's own.
 #![tactic(auto)]
 
+mod auditing;
+mod digests;
 mod fault;
 mod fields;
+mod flights;
 mod laws;
 mod reading;
+mod replay;
 mod writing;
 mod written;
 
+pub use auditing::{AuditError, audit};
+pub use digests::audit_by_digests;
 pub use fault::{Stop, TranscriptKind};
 pub use laws::{one_spelling, starved_has_none, transcript_or_fault};
 pub use writing::{TranscriptError, write_transcript};
