@@ -18,11 +18,11 @@ as_many R (claim ∷ claims) [] h = absurd h
 as_many R (claim ∷ claims) (judgement ∷ found) h =
     let rest = as_many R claims found h.1 in omega (arith, rest)
 
-or_assoc : (a b c : Bool) → ((a || b) || c) ≡ (a || (b || c))
+pub or_assoc : (a b c : Bool) → ((a || b) || c) ≡ (a || (b || c))
 or_assoc true b c = refl
 or_assoc false b c = refl
 
-or_false : (a : Bool) → (a || false) ≡ a
+pub or_false : (a : Bool) → (a || false) ≡ a
 or_false true = refl
 or_false false = refl
 
