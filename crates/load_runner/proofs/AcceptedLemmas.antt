@@ -1,16 +1,18 @@
 -- Sessions that are done with answers among their references are accepted.
-use Rattle.std.proofs.Common.{◌≡◌, ◌+◌, ◌∙◌, ℕ, zero, suc, Bool, true, false, List, [], ◌∷◌, ◌++◌, length, length-append, Option, None, Some, ap, arith, refl, sym, subst, IsTrue}
+use Rattle.std.proofs.Common.{◌≡◌, ◌∙◌, ℕ, zero, suc, Bool, true, false, List, [], ◌∷◌, length, length-append, Option, None, Some, ap, arith, refl, sym, subst, IsTrue}
 use Rattle.std.specs.Prelude.{nat_eq, if◌then◌else◌}
 use Rattle.std.specs.List.{AllByRecursion, list_any}
 use Rattle.bench_trait.specs.declared.ask.Ask.{Ask}
 use Rattle.bench_trait.specs.Asking.{question_among}
 use Rattle.bench_trait.specs.Digest.{LacksArtefact, digest_answer}
 use Rattle.evidence_types.specs.Answers.{answer_at}
+use Rattle.evidence_types.specs.Bytes.{bundle}
 use Rattle.evidence_types.specs.Shape.{shape_at}
 use Rattle.place_check.specs.Places.{keys_of}
 use Rattle.reference_book.specs.declared.reference.Reference.{Reference}
 use Rattle.reference_book.specs.Leaves.{Leaf, answers_at, has_several, hashed_leaves, leaves, least_event}
 use Rattle.session_model.specs.Record.{Record, done, failed, AreAnswers}
+use Rattle.session_model.specs.RightRecord.{IsRightDone}
 use Rattle.session_model.specs.Session.{Session, session_questions}
 use Rattle.session_model.specs.Value.{Makings, session_value}
 use Rattle.phrase_tree.specs.Term.{Term}
@@ -27,7 +29,7 @@ use Rattle.load_maker.specs.Answered.{HasAnswers, HaveAnswers, IsAnswered}
 use Rattle.load_maker.specs.Job.{made_job}
 use Rattle.load_maker.specs.Sessions.{made_session, made_sessions}
 use Rattle.load_maker.specs.Artefacts.{made_artefacts}
-use Rattle.load_runner.specs.Accepted.{IsReferred, leaf_of}
+use Rattle.load_runner.specs.Accepted.{AreDigestsReferred, IsReferred, leaf_of}
 use Rattle.load_runner.specs.Figures.{accepted_count, done_count, is_accepted, is_done, one_if, value_with}
 use Rattle.load_runner.specs.Run.{AreRunRecords, IsRunOf, IsRunRecord}
 use Rattle.load_runner.specs.declared.figures.Figures.{Figures}
@@ -76,7 +78,21 @@ accepted_by law job session answers h one =
     law session.phrase session.root (record { nonce = session.nonce; answers = answers; keys = keys_of job.places }) job.references one
     (all_expected job.references answers (leaves (shape_at session.phrase session.root)) (shape_holds P session.nonce session.phrase session.root each))
 
--- ---- over digests
+-- ---- over digests, of any job
+
+all_referred : (job : JobView) (asks : List Ask) (answers : List (ℕ × List ℕ)) → AllByRecursion (λ ask. (answer : List ℕ) → digest_answer job.artefacts ask ≡ Some answer → IsReferred job.references ask answer) asks → AreAnswers (λ ask answer. digest_answer job.artefacts ask ≡ Some answer) asks answers → AreAnswers (IsReferred job.references) asks answers
+all_referred job [] [] h k = tt
+all_referred job [] (pair ∷ answers) h k = absurd k
+all_referred job (ask ∷ asks) [] h k = absurd k
+all_referred job (ask ∷ asks) (pair ∷ answers) h k = (k.0, h.0 pair.1 k.1, all_referred job asks answers h.1 k.2)
+
+pub done_accepted : SessionLaw → (job : JobView) (session : Session) (trace : List ℕ) (answers : List (ℕ × List ℕ)) (bytes : List ℕ) → AreDigestsReferred job session → least_event (has_several job.references) (hashed_leaves (shape_at session.phrase session.root)) ≡ None → IsRightDone (λ ask answer. digest_answer job.artefacts ask ≡ Some answer) session (keys_of job.places) trace answers bytes → (bytes ≡ bundle (value_with job session answers)) × IsTrue (all_good (verdicts (basis_of job.places job.references session.nonce) (value_with job session answers) (shape_at session.phrase session.root)))
+done_accepted law job session trace answers bytes h one right = (
+  right.bundled,
+  accepted_by law job session answers (all_referred job (session_questions session) answers h right.answered) one,
+)
+
+-- ---- over digests, of a made job
 
 expected_one : (references : List Reference) (leaf : Leaf) (answer bytes : List ℕ) → answers_at references leaf ≡ answer ∷ [] → answer ≡ bytes → is_expected references leaf bytes ≡ true
 expected_one references leaf answer bytes h is =

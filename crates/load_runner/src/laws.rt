@@ -2,15 +2,18 @@
 
 ghost use Rattle.std.specs.Prelude.{◌≡◌, ℕ, List, None, Some, IsTrue};
 ghost use Rattle.bench_trait.specs.Digest.{LacksArtefact, digest_answer};
+ghost use Rattle.evidence_types.specs.Bytes.{bundle};
 ghost use Rattle.evidence_types.specs.Shape.{shape_at};
+ghost use Rattle.place_check.specs.Places.{keys_of};
 ghost use Rattle.reference_book.specs.Leaves.{has_several, hashed_leaves, least_event};
 ghost use Rattle.session_model.specs.Record.{AreAnswers};
+ghost use Rattle.session_model.specs.RightRecord.{IsRightDone};
 ghost use Rattle.session_model.specs.Session.{Session, session_questions};
 ghost use Rattle.appraiser.specs.Appraised.{basis_of};
 ghost use Rattle.appraiser.specs.Verdicts.{all_good, verdicts};
 ghost use Rattle.job_reader.specs.Finding.{JobView};
 ghost use Rattle.load_maker.specs.Job.{made_job};
-ghost use Rattle.load_runner.specs.Accepted.{IsReferred};
+ghost use Rattle.load_runner.specs.Accepted.{AreDigestsReferred, IsReferred};
 ghost use Rattle.load_runner.specs.Figures.{value_with};
 ghost use Rattle.load_runner.specs.Run.{IsRunOf};
 ghost use Rattle.load_runner.specs.declared.figures.Figures.{Figures};
@@ -25,6 +28,22 @@ pub fn done_with_references_is_accepted()
         AreAnswers (IsReferred job.references) (session_questions session) answers →
         least_event (has_several job.references) (hashed_leaves (shape_at session.phrase session.root)) ≡ None →
         IsTrue (all_good (verdicts
+        (basis_of job.places job.references session.nonce)
+        (value_with job session answers)
+        (shape_at session.phrase session.root))) }
+{
+    session_law();
+}
+
+/// What a walk or a run by workers records as done over `DigestBench`, in whatever order its events happened, is
+/// accepted: its bundle is that of a value on which each verdict is good, if the references of the job have the
+/// digest of each measurement, and no measurement under a hash has several.
+pub fn done_over_digests_is_accepted()
+    ensures { (job : JobView) (session : Session) (trace : List ℕ) (answers : List (ℕ × List ℕ)) (bytes : List ℕ) →
+        AreDigestsReferred job session →
+        least_event (has_several job.references) (hashed_leaves (shape_at session.phrase session.root)) ≡ None →
+        IsRightDone (λ ask answer. digest_answer job.artefacts ask ≡ Some answer) session (keys_of job.places) trace answers bytes →
+        (bytes ≡ bundle (value_with job session answers)) × IsTrue (all_good (verdicts
         (basis_of job.places job.references session.nonce)
         (value_with job session answers)
         (shape_at session.phrase session.root))) }

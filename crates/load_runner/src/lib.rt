@@ -13,5 +13,7 @@ mod run;
 mod tally;
 
 pub use figures::Figures;
-pub use laws::{done_with_references_is_accepted, made_jobs_are_accepted};
+pub use laws::{
+    done_over_digests_is_accepted, done_with_references_is_accepted, made_jobs_are_accepted,
+};
 pub use run::run_load;

@@ -1,12 +1,12 @@
 -- Each session is one of the job's, and is counted behind those before it.
-use Rattle.std.proofs.Common.{◌≡◌, ◌+◌, ◌++◌, ◌∷◌, ◌∙◌, [], List, length, get_or, map, take, ap, arith, refl, subst, sym, rules}
+use Rattle.std.proofs.Common.{◌≡◌, ◌+◌, ◌++◌, ◌∷◌, ◌∙◌, [], List, length, get_or, map, take, ap, arith, subst, sym}
 use Rattle.std.proofs.lemmas.List.{length-map, map-append, take_all, take_more}
 use Rattle.std.proofs.lemmas.Option.{slice_get_read}
 use Rattle.session_model.specs.Session.{Session}
 use Rattle.place_check.specs.Session.{CheckedSession, session_of}
 use Rattle.job_reader.specs.Accepted.{job_view}
 use Rattle.load_maker.specs.Answered.{HasAnswers}
-use Rattle.load_runner.specs.Figures.{accepted_count, bundles_in, done_count, event_sum, figures_of, is_accepted, is_done}
+use Rattle.load_runner.specs.Figures.{bundles_in, is_accepted, is_done}
 use Rattle.load_runner.specs.Tally.{IsTallied}
 use Rattle.load_runner.proofs.LeafLemmas.{all_at}
 use Rattle.load_runner.proofs.TallyLemmas.{at_most_one, figures_are, none_tallied, tallied_more}
