@@ -3,3 +3,6 @@ pub mod Requests
 pub mod Messages
 pub mod Linked
 pub mod WireSchedule
+pub mod Link
+pub mod Framed
+pub mod Wire
