@@ -24,13 +24,14 @@ use std::thread::Threads;
 const NONCE: [u8; 16] = [0, 1, 2, 3, 4, 5, 6, 7, 8, 9, 10, 11, 12, 13, 14, 15];
 
 /// A bench that counts its asks. It holds its answer to one event until so many asks have come, or it
-/// fails at each.
+/// fails at each, or it has no memory for the one of this number, from 0.
 #[derive(Drop)]
 struct Meeting {
     asks: AtomicU64,
     held: u32,
     wanted: u64,
     fails: bool,
+    starved: Option<u64>,
 }
 
 impl Meeting {
@@ -40,6 +41,7 @@ impl Meeting {
             held,
             wanted,
             fails: false,
+            starved: None,
         }
     }
 
@@ -49,6 +51,17 @@ impl Meeting {
             held: 0,
             wanted: 0,
             fails: true,
+            starved: None,
+        }
+    }
+
+    fn starving(ask: u64) -> Meeting {
+        Meeting {
+            asks: AtomicU64::new(0),
+            held: 0,
+            wanted: 0,
+            fails: false,
+            starved: Some(ask),
         }
     }
 
@@ -69,11 +82,14 @@ impl Bench for Meeting {
 
     ghost fails = { λ bench artefacts ask fault. Unit {0} };
 
-    ghost starves = { λ bench artefacts ask. ⊥ };
+    ghost starves = { λ bench artefacts ask. Unit {0} };
 
     fn measure(&self, artefacts: &ArtefactBook, ask: &Ask) -> Result<Answer, MeasureError> {
         let _ = artefacts;
-        self.asks.fetch_add(1, Ordering::SeqCst);
+        let asked = self.asks.fetch_add(1, Ordering::SeqCst);
+        if self.starved == Some(asked) {
+            return Err(MeasureError::NoMemory);
+        }
         if self.fails {
             return Err(MeasureError::Fault(BenchFault::Broken(7)));
         }
@@ -234,6 +250,25 @@ fn ran<'a, R: Threads + Wait + Sync, B: Bench + Sync>(
     }
 }
 
+/// What so many workers make of so many sessions of one phrase.
+fn tried<R: Threads + Wait + Sync + Abort>(
+    rt: &R,
+    alloc: Global,
+    phrase: Phrase,
+    bench: &Meeting,
+    sessions: u32,
+    workers: u32,
+) -> Result<Result<Vec<Record>, NoMemory>, Fail>
+    requires sized { IsSized (term phrase) }
+    requires workers { (0 < workers) × (workers < 100) }
+{
+    let places = bank(rt, alloc)?;
+    let checked = checked(rt, &places, phrase)?;
+    let artefacts = ArtefactBook::empty(alloc);
+    let sessions = opened(alloc, &checked, &places, &artefacts, bench, sessions)?;
+    Ok(ran(rt, alloc, sessions, &artefacts, bench, workers))
+}
+
 /// The records of so many sessions of one phrase, by so many workers.
 fn records<R: Threads + Wait + Sync + Abort>(
     rt: &R,
@@ -246,11 +281,7 @@ fn records<R: Threads + Wait + Sync + Abort>(
     requires sized { IsSized (term phrase) }
     requires workers { (0 < workers) × (workers < 100) }
 {
-    let places = bank(rt, alloc)?;
-    let checked = checked(rt, &places, phrase)?;
-    let artefacts = ArtefactBook::empty(alloc);
-    let sessions = opened(alloc, &checked, &places, &artefacts, bench, sessions)?;
-    Ok(ran(rt, alloc, sessions, &artefacts, bench, workers)?)
+    Ok(tried(rt, alloc, phrase, bench, sessions, workers)??)
 }
 
 /// Whether a session is done with one of these traces.
@@ -301,12 +332,25 @@ fn sixteen_workers_ask_as_often_as_there_are_measurements(rt: HostRuntime) -> Re
 fn every_ask_fails(rt: HostRuntime) -> Result<(), Fail> {
     let alloc = rt.alloc();
     let bench = Meeting::failing();
-    let found = records(&rt, alloc, one(&rt, alloc)?, &bench, 48, 16)?;
-    assert_eq!(rt; found.len(), 48);
+    let found = records(&rt, alloc, one(&rt, alloc)?, &bench, 256, 16)?;
+    assert_eq!(rt; found.len(), 256);
     for record in &found {
         assert!(rt; has_failed(record, 0, BenchFault::Broken(7)));
     }
-    assert_eq!(rt; bench.asks.load(Ordering::SeqCst), 48);
+    assert_eq!(rt; bench.asks.load(Ordering::SeqCst), 256);
+    Ok(())
+}
+
+// The first ask, one in the middle, or the last has no memory; every other session is asked all the same.
+#[test]
+fn one_ask_starves(rt: HostRuntime) -> Result<(), Fail> {
+    let alloc = rt.alloc();
+    for ask in [0, 100, 255] {
+        let bench = Meeting::starving(ask);
+        let found = tried(&rt, alloc, one(&rt, alloc)?, &bench, 256, 16)?;
+        assert!(rt; found.is_err(), "at {ask}");
+        assert_eq!(rt; bench.asks.load(Ordering::SeqCst), 256, "at {ask}");
+    }
     Ok(())
 }
 
