@@ -1,17 +1,15 @@
 -- Sessions that the schedule of 0 plays, one after another (this project's own).
-use Rattle.std.specs.Prelude.{◌≡◌, ℕ, false, List, [], ◌∷◌, ◌++◌, None, Some}
+use Rattle.std.specs.Prelude.{◌≡◌, ℕ, false, List, [], ◌∷◌, ◌++◌, None}
 use Rattle.bench_trait.specs.declared.ask.Ask.{Ask}
 use Rattle.bench_trait.specs.declared.bench.BenchFault.{BenchFault}
 use Rattle.session_model.specs.Session.{Session}
-use Rattle.session_model.specs.Record.{Record}
-use Rattle.session_runs.specs.Schedule.{Walked, is_running}
+use Rattle.session_runs.specs.Schedule.{Walked, is_running, is_starving}
 use Rattle.session_runs.specs.Played.{AskOnly}
 use Rattle.place_check.specs.declared.entry.PlaceEntry.{PlaceEntry}
 use Rattle.place_check.specs.Places.{keys_of}
 use Rattle.checked_sessions.specs.Named.{place_names}
 use Rattle.session_walk.specs.Drawn.{open_ones}
 use Rattle.session_walk.specs.UnderWay.{IsWalking}
-use Rattle.session_walk.specs.Records.{record_in}
 
 -- none of these is open
 abbrev pub NoneRuns : List Walked → Type 0
@@ -34,14 +32,8 @@ abbrev pub TurnStays : (Ask → List ℕ → Type 0) → (Ask → BenchFault →
 TurnStays Gives Fails Starves places before after =
     (those : List Session) (over more : List Walked) → IsTurnOf Gives Fails Starves places those over (before ∷ more) → IsTurnOf Gives Fails Starves places those over (after ∷ more)
 
--- it was the turn of a session, with more behind it, which is over with this record
-pub record IsTurnOver (Gives : Ask → List ℕ → Type 0) (Fails : Ask → BenchFault → Type 0) (Starves : Ask → Type 0) (places : List PlaceEntry) (those : List Session) (over more : List Walked) (found : Record) : Type 0 where
-  pub walked : Walked
-  pub turn : IsTurnOf Gives Fails Starves places those over (walked ∷ more)
-  pub ended : is_running walked.standing.state ≡ false
-  pub recorded : record_in walked ≡ Some found
-
--- in each walk in which it was the turn of a session, its turn is over with this record
-abbrev pub TurnEnds : (Ask → List ℕ → Type 0) → (Ask → BenchFault → Type 0) → (Ask → Type 0) → List PlaceEntry → Walked → Record → Type 0
-TurnEnds Gives Fails Starves places before found =
-    (those : List Session) (over more : List Walked) → IsTurnOf Gives Fails Starves places those over (before ∷ more) → IsTurnOver Gives Fails Starves places those over more found
+-- a session whose turn it was is done or failed, and as it stands now the turn passes to the session behind it
+pub record HasHadTurn (Gives : Ask → List ℕ → Type 0) (Fails : Ask → BenchFault → Type 0) (Starves : Ask → Type 0) (places : List PlaceEntry) (before after : Walked) : Type 0 where
+  pub passes : (those : List Session) (over more : List Walked) → IsTurnOf Gives Fails Starves places those over (before ∷ more) → IsTurnOf Gives Fails Starves places those (over ++ after ∷ []) more
+  pub ended : is_running after.standing.state ≡ false
+  pub fed : is_starving after.standing.state ≡ false

@@ -22,4 +22,5 @@ pub use fixed::digests_make_one_walk;
 pub use going::Going;
 pub use laws::walk_law;
 pub use records::records_law;
-pub use walk::walk_sessions;
+pub use turns::{all_ask_places, finish_in_turn, turns_law};
+pub use walk::{finish_together, walk_sessions};

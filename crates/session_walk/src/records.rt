@@ -1,7 +1,7 @@
 ghost use Rattle.std.specs.Prelude.{◌≡◌, ℕ, List, Some, slice_get};
 ghost use Rattle.session_model.specs.Session.{Session};
 ghost use Rattle.session_model.specs.Record.{Record};
-ghost use Rattle.session_runs.specs.Schedule.{Walked};
+ghost use Rattle.session_runs.specs.Schedule.{Walked, scheduled};
 ghost use Rattle.session_runs.specs.Played.{AskOnly};
 ghost use Rattle.session_walk.specs.UnderWay.{AreScheduled};
 ghost use Rattle.session_walk.specs.Records.{record_in, AreRecordsOf, AreOfWalk};
@@ -12,7 +12,8 @@ use session_runs::{
 };
 
 /// The law of records of a walk: sessions that stand as a schedule plays them are done or failed, so each
-/// has a record; and one record of each of them, in their order, are those of the walk. It does nothing.
+/// has a record; and one record of each of them, in their order, are those of a walk in which the sessions
+/// stand like this. It does nothing.
 pub fn records_law<B: Bench>(bench: &B, artefacts: &ArtefactBook)
     ensures each { (places : List (List ℕ)) (keys : List (List ℕ × List ℕ)) (sessions : List Session) (number : ℕ) (all : List Walked) (played : ℕ) (walked : Walked) →
         AskOnly places sessions →
@@ -39,7 +40,7 @@ pub fn records_law<B: Bench>(bench: &B, artefacts: &ArtefactBook)
         number
         all →
         AreRecordsOf all records →
-        AreOfWalk
+        (walk : AreOfWalk
         (B.gives bench.now artefacts.now)
         (B.fails bench.now artefacts.now)
         (B.starves bench.now artefacts.now)
@@ -47,7 +48,8 @@ pub fn records_law<B: Bench>(bench: &B, artefacts: &ArtefactBook)
         keys
         sessions
         number
-        records }
+        records)
+        × (scheduled places keys walk.results sessions number ≡ all) }
 {
     fault_law();
     legal_schedule_law(bench, artefacts);

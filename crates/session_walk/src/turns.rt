@@ -1,8 +1,11 @@
-ghost use Rattle.std.specs.Prelude.{◌≡◌, ◌+◌, ℕ, false, Some, IfOk, OnOk, length, map, slice_get};
+ghost use Rattle.std.specs.Prelude.{◌≡◌, ◌+◌, ℕ, false, List, [], Some, IfOk, OnOk, length, map, slice_get};
+ghost use Rattle.bench_trait.specs.declared.artefacts.Artefact.{Artefact};
+ghost use Rattle.session_model.specs.Session.{Session as Meant};
 ghost use Rattle.session_model.specs.Recorded.{recorded};
 ghost use Rattle.session_runs.specs.Standing.{is_open};
 ghost use Rattle.session_runs.specs.Played.{AskOnly};
-ghost use Rattle.session_runs.specs.Schedule.{just_opened, is_running, is_starving};
+ghost use Rattle.session_runs.specs.Schedule.{Walked, just_opened, all_opened, is_running, is_starving};
+ghost use Rattle.place_check.specs.declared.entry.PlaceEntry.{PlaceEntry};
 ghost use Rattle.place_check.specs.Places.{keys_of};
 ghost use Rattle.place_check.specs.Session.{CheckedSession, IsCheckedAgainst, session_of};
 ghost use Rattle.checked_sessions.specs.Named.{place_names};
@@ -10,7 +13,8 @@ ghost use Rattle.session_core.specs.Reading.{word_of};
 ghost use Rattle.session_core.specs.Session.{history};
 ghost use Rattle.session_walk.specs.Records.{AreOfWalk};
 ghost use Rattle.session_walk.specs.Sessions.{IsOver, walked_in};
-ghost use Rattle.session_walk.specs.Turns.{IsItsTurn, TurnStays, TurnEnds};
+ghost use Rattle.session_walk.specs.Turns.{IsTurnOf, IsItsTurn, TurnStays, HasHadTurn};
+ghost use Rattle.session_walk.specs.UnderWay.{AreScheduled};
 
 use crate::draws::Draws;
 use crate::laws::walk_law;
@@ -112,14 +116,15 @@ fn play_to_the_end<B: Bench>(
     Ok(())
 }
 
-/// Opens a session whose turn it is, plays it to its end, and takes its record.
-fn walk_one<B: Bench>(
+/// Opens a session whose turn it is, and plays it to its end. An error is that it starved, or want of
+/// memory.
+pub fn finish_in_turn<'a, B: Bench>(
     alloc: Global,
-    one: &Checked,
-    places: &Places,
-    artefacts: &ArtefactBook,
-    bench: &B,
-) -> Result<Record, NoMemory>
+    one: &'a Checked,
+    places: &'a Places,
+    artefacts: &'a ArtefactBook,
+    bench: &'a B,
+) -> Result<Session<'a, B>, NoMemory>
     requires checked { IsCheckedAgainst (session_of one.now) places.now }
     requires turn { IsItsTurn
         (B.gives bench.now artefacts.now)
@@ -127,21 +132,56 @@ fn walk_one<B: Bench>(
         (B.starves bench.now artefacts.now)
         places.now
         (just_opened (session_of one.now)) }
-    ensures { IfOk result (λ found. TurnEnds
+    ensures { IfOk result (λ session. HasHadTurn
         (B.gives bench.now artefacts.now)
         (B.fails bench.now artefacts.now)
         (B.starves bench.now artefacts.now)
         places.now
         (just_opened (session_of one.now))
-        (recorded found)) }
+        (walked_in session)) }
 {
     let mut session = Session::open(alloc, one, places, artefacts, bench)?;
     play_to_the_end(&mut session, artefacts, bench)?;
-    record_of(&session)
+    Ok(session)
+}
+
+/// The law of turns: of sessions just opened it is the turn of the first, and once each has had its turn
+/// they are as the schedule of 0 plays them. It does nothing.
+pub fn turns_law<B: Bench>()
+    ensures begins { (bench : B) (artefacts : List Artefact) (places : List PlaceEntry) (those : List Meant) →
+        AskOnly (place_names places) those →
+        IsTurnOf
+        (B.gives bench artefacts)
+        (B.fails bench artefacts)
+        (B.starves bench artefacts)
+        places
+        those
+        []
+        (all_opened those) }
+    ensures ends { (bench : B) (artefacts : List Artefact) (places : List PlaceEntry) (those : List Meant) (over : List Walked) →
+        IsTurnOf
+        (B.gives bench artefacts)
+        (B.fails bench artefacts)
+        (B.starves bench artefacts)
+        places
+        those
+        over
+        [] →
+        AreScheduled
+        (B.gives bench artefacts)
+        (B.fails bench artefacts)
+        (B.starves bench artefacts)
+        (place_names places)
+        (keys_of places)
+        those
+        0
+        over }
+{
+    walk_law::<B>();
 }
 
 /// A law: sessions that were checked against places ask only these. It does nothing else.
-fn all_ask_places(places: &Places, checked: &[Checked])
+pub fn all_ask_places(places: &Places, checked: &[Checked])
     requires { (index : ℕ) (one : CheckedSession) → slice_get checked.now index ≡ Some one → IsCheckedAgainst (session_of one) places.now }
     ensures { AskOnly (place_names places.now) (map session_of checked.now) }
 {
@@ -171,12 +211,13 @@ pub(crate) fn walk_in_turn<B: Bench>(
         0
         (map recorded records.items)) }
 {
-    walk_law::<B>();
+    turns_law::<B>();
     records_law(bench, artefacts);
     all_ask_places(places, checked);
     let mut records = Vec::new(alloc);
     for one in checked {
-        let found = walk_one(alloc, one, places, artefacts, bench)?;
+        let session = finish_in_turn(alloc, one, places, artefacts, bench)?;
+        let found = record_of(&session)?;
         records.push(found)?;
     }
     Ok(records)

@@ -11,11 +11,12 @@ ghost use Rattle.session_core.specs.declared.opened.Opened.{Opened};
 ghost use Rattle.session_core.specs.Session.{Seen};
 ghost use Rattle.session_walk.specs.Records.{record_in, AreRecordsOf, AreOfWalk};
 ghost use Rattle.session_walk.specs.Sessions.{AreAllOpened, walked_in};
+ghost use Rattle.session_walk.specs.UnderWay.{AreScheduled};
 
 use crate::laws::walk_law;
 use crate::records::records_law;
 use crate::rounds::play_out;
-use crate::turns::walk_in_turn;
+use crate::turns::{all_ask_places, walk_in_turn};
 use bench_trait::{ArtefactBook, Bench};
 use checked_sessions::checked_session_asks_places;
 use phrase_tree::NoMemory;
@@ -123,9 +124,36 @@ fn walk_together<B: Bench>(
         number
         (map recorded records.items)) }
 {
-    walk_law::<B>();
     records_law(bench, artefacts);
+    all_ask_places(places, checked);
+    let sessions = finish_together(alloc, checked, places, artefacts, bench, number)?;
+    records_of(alloc, &sessions)
+}
+
+/// Opens all sessions of a job, and plays them to their end on one thread by the schedule of a number: the
+/// sessions, in their order. An error is that one starved, or want of memory.
+pub fn finish_together<'a, B: Bench>(
+    alloc: Global,
+    checked: &'a [Checked],
+    places: &'a Places,
+    artefacts: &'a ArtefactBook,
+    bench: &'a B,
+    number: u32,
+) -> Result<Vec<Session<'a, B>>, NoMemory>
+    requires few { length checked.now < 2 ^ 32 }
+    requires checked { (index : ℕ) (one : CheckedSession) → slice_get checked.now index ≡ Some one → IsCheckedAgainst (session_of one) places.now }
+    ensures { IfOk result (λ sessions. AreScheduled
+        (B.gives bench.now artefacts.now)
+        (B.fails bench.now artefacts.now)
+        (B.starves bench.now artefacts.now)
+        (place_names places.now)
+        (keys_of places.now)
+        (map session_of checked.now)
+        number
+        (map walked_in sessions.items)) }
+{
+    walk_law::<B>();
     let mut sessions = open_all(alloc, checked, places, artefacts, bench)?;
     play_out(alloc, &mut sessions, number, artefacts, bench)?;
-    records_of(alloc, &sessions)
+    Ok(sessions)
 }

@@ -6,7 +6,7 @@ use Rattle.session_runs.specs.Schedule.{Walked, one_starves, scheduled}
 use Rattle.session_runs.specs.Played.{ArePlayed, AreOver, AllMeasured, AreLegal}
 use Rattle.session_runs.specs.ByFaults.{scheduled_traces}
 use Rattle.session_runs.specs.Rising.{AreRising}
-use Rattle.session_walk.specs.Records.{AreRecordsOf}
+use Rattle.session_walk.specs.Records.{AreRecordsOf, AreOfWalk}
 use Rattle.session_walk.proofs.RecordLemmas.{traces_are, faults_are, are_right, are_rising, none_open, each_ended}
 use Rattle.session_walk.proofs.records.records_law.Goals as goal
 
@@ -26,7 +26,7 @@ returns g c =
           let legal : AreLegal Gives Fails Starves keys sessions those = c.legal_schedule_law.ensures places keys stands.results sessions number only measured in
           let recorded : AreRecordsOf those records = subst (λ w. AreRecordsOf w records) (sym stands.stand) are in
           let fed : one_starves those ≡ false = ap (λ w. one_starves w) stands.stand ∙ stands.fed in
-          record {
+          let walk : AreOfWalk Gives Fails Starves places keys sessions number records = record {
             only = only;
             results = stands.results;
             legal = legal;
@@ -39,5 +39,6 @@ returns g c =
             rising = λ zero.
                 let rises : AreRising those = subst (λ n. AreRising (scheduled places keys stands.results sessions n)) (sym zero) (c.rising_law.ensures places keys stands.results sessions only) in
                 are_rising Gives Fails Starves keys stands.results (λ session. c.rising_record_law.ensures session keys) 0 sessions those records plays legal rises recorded;
-          };
+          } in
+          (walk, stands.stand);
     }

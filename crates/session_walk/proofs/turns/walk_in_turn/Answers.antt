@@ -1,8 +1,6 @@
 use Rattle.std.proofs.Common.{◌≡◌, List, ◌+◌, [], ◌∷◌, ◌++◌, length, map, drop, refl, sym, ◌∙◌, ap, subst, arith}
-use Rattle.std.specs.Prelude.{None}
 use Rattle.std.proofs.lemmas.Option.{slice_get_read}
 use Rattle.std.proofs.lemmas.List.{drop_more, drop_all, map-append}
-use Rattle.session_model.specs.Record.{numbers_below}
 use Rattle.session_model.specs.Recorded.{recorded}
 use Rattle.session_model.specs.declared.record.Record.{Record as KeptRecord}
 use Rattle.session_runs.specs.Schedule.{just_opened, all_opened}
@@ -10,9 +8,10 @@ use Rattle.place_check.specs.Places.{keys_of}
 use Rattle.place_check.specs.Session.{CheckedSession, session_of}
 use Rattle.checked_sessions.specs.Named.{place_names}
 use Rattle.session_walk.specs.Records.{AreRecordsOf}
+use Rattle.session_walk.specs.Sessions.{walked_in}
 use Rattle.session_walk.specs.Turns.{IsTurnOf}
 use Rattle.session_walk.proofs.JobLemmas.{records_more}
-use Rattle.session_walk.proofs.TurnLemmas.{first_turn, next_turn, all_walked}
+use Rattle.session_walk.proofs.TurnLemmas.{has_record}
 use Rattle.session_walk.proofs.turns.walk_in_turn.Goals as goal
 
 pub loop-one-init : goal.loop-one-init
@@ -22,17 +21,16 @@ loop-one-init g c =
     let places = c.args.places.now in
     let those = map session_of c.args.checked.now in (
       [],
-      first_turn (g.B.Bench.gives bench book) (g.B.Bench.fails bench book) (g.B.Bench.starves bench book) book bench places those (all_opened those) (numbers_below (length those)) c.all_ask_places.ensures
-          (c.walk_law.ensures.begins bench book (place_names places) (keys_of places) those 0 c.all_ask_places.ensures),
+      c.turns_law.ensures.begins bench book places those c.all_ask_places.ensures,
       subst (λ (found : List KeptRecord). AreRecordsOf [] (map recorded found)) (sym c.new-records.ensures.items) tt,
     )
 
-pub walk_one-requires-clause-checked : goal.walk_one-requires-clause-checked
-walk_one-requires-clause-checked g c =
+pub finish_in_turn-requires-clause-checked : goal.finish_in_turn-requires-clause-checked
+finish_in_turn-requires-clause-checked g c =
     c.requires.checked c.loop-one.one-index c.one-item.result (slice_get_read c.args.checked.now (length c.args.checked.now) c.loop-one.one-index c.one-item.result refl (omega arith) c.one-item.is)
 
-pub walk_one-requires-clause-turn : goal.walk_one-requires-clause-turn
-walk_one-requires-clause-turn g c =
+pub finish_in_turn-requires-clause-turn : goal.finish_in_turn-requires-clause-turn
+finish_in_turn-requires-clause-turn g c =
     let book = c.args.artefacts.now in
     let bench = c.args.bench.now in
     let places = c.args.places.now in
@@ -64,12 +62,16 @@ loop-one-preserved g c =
     let more = all_opened (map session_of (drop (index + 1) checked)) in
     let split : all_opened (map session_of (drop index checked)) ≡ just_opened (session_of one) ∷ more = ap (λ xs. all_opened (map session_of xs)) (drop_more checked index one (omega arith)) ∙ ap (λ (o : CheckedSession). just_opened (session_of o) ∷ more) (sym c.one-item.is) in
     let turn = subst (λ xs. IsTurnOf (g.B.Bench.gives bench book) (g.B.Bench.fails bench book) (g.B.Bench.starves bench book) places those inv.0 xs) split inv.1 in
-    let t = c.in_ok-found.ensures those inv.0 more turn in (
-      inv.0 ++ t.walked ∷ [],
-      next_turn (g.B.Bench.gives bench book) (g.B.Bench.fails bench book) (g.B.Bench.starves bench book) book bench places those inv.0 more t.walked t.turn t.ended,
-      subst (λ ys. AreRecordsOf (inv.0 ++ t.walked ∷ []) ys) (sym (ap (λ xs. map recorded xs) c.in_ok-push.ensures.items ∙ map-append recorded records (found ∷ [])))
-          (records_more inv.0 (map recorded records) t.walked (recorded found) inv.2 t.recorded),
+    let session = c.in_ok-session.session in
+    let had = c.in_ok-session.ensures in (
+      inv.0 ++ walked_in session ∷ [],
+      had.passes those inv.0 more turn,
+      subst (λ ys. AreRecordsOf (inv.0 ++ walked_in session ∷ []) ys) (sym (ap (λ xs. map recorded xs) c.in_ok-push.ensures.items ∙ map-append recorded records (found ∷ [])))
+          (records_more inv.0 (map recorded records) (walked_in session) (recorded found) inv.2 c.in_ok-found.ensures),
     )
+
+pub record_of-requires : goal.record_of-requires
+record_of-requires g c = has_record (walked_in c.in_ok-session.session) c.in_ok-session.ensures.ended c.in_ok-session.ensures.fed
 
 pub returns : goal.returns
 returns g c =
@@ -81,6 +83,6 @@ returns g c =
     let inv = c.loop-one.invariant in
     let nothing : drop c.loop-one.one-index checked ≡ [] = drop_all c.loop-one.one-index checked (omega arith) in
     let turn = subst (λ xs. IsTurnOf (g.B.Bench.gives bench book) (g.B.Bench.fails bench book) (g.B.Bench.starves bench book) places those inv.0 (all_opened (map session_of xs))) nothing inv.1 in
-    c.records_law.ensures.are (place_names places) (keys_of places) those 0 inv.0 (map recorded c.loop-one.records.items) turn.only
-    (c.walk_law.ensures.ends bench book (place_names places) (keys_of places) those 0 inv.0 None turn.only (all_walked (g.B.Bench.gives bench book) (g.B.Bench.fails bench book) (g.B.Bench.starves bench book) book bench places those inv.0 turn))
-    inv.2
+    (c.records_law.ensures.are (place_names places) (keys_of places) those 0 inv.0 (map recorded c.loop-one.records.items) turn.only
+    (c.turns_law.ensures.ends bench book places those inv.0 turn)
+    inv.2).0

@@ -1,15 +1,11 @@
-use Rattle.std.proofs.Common.{◌≡◌, List, ◌∷◌, sym, subst}
-use Rattle.std.specs.Prelude.{Some}
-use Rattle.std.proofs.lemmas.Result.{IfOk-weaker}
-use Rattle.session_model.specs.Recorded.{recorded}
+use Rattle.std.proofs.Common.{List, ◌∷◌, sym, subst}
 use Rattle.session_runs.specs.Schedule.{Walked}
 use Rattle.place_check.specs.declared.entry.PlaceEntry.{PlaceEntry}
-use Rattle.session_walk.specs.Records.{record_in}
 use Rattle.session_walk.specs.Sessions.{walked_in}
 use Rattle.session_walk.specs.Turns.{IsTurnOf}
 use Rattle.session_walk.proofs.JobLemmas.{opened_is}
-use Rattle.session_walk.proofs.TurnLemmas.{has_record}
-use Rattle.session_walk.proofs.turns.walk_one.Goals as goal
+use Rattle.session_walk.proofs.TurnLemmas.{next_turn}
+use Rattle.session_walk.proofs.turns.finish_in_turn.Goals as goal
 
 pub play_to_the_end-requires-clause-over : goal.play_to_the_end-requires-clause-over
 play_to_the_end-requires-clause-over g c =
@@ -31,10 +27,6 @@ play_to_the_end-requires-clause-turn g c =
           (subst (λ (w : Walked). IsTurnOf (g.B.Bench.gives bench book) (g.B.Bench.fails bench book) (g.B.Bench.starves bench book) c.args.places.now t.0 t.1 (w ∷ t.2)) (sym is) t.3),
     )
 
-pub record_of-requires : goal.record_of-requires
-record_of-requires g c =
-    has_record (walked_in c.play_to_the_end.new.session) c.in_ok-play_to_the_end.ensures.ended c.in_ok-play_to_the_end.ensures.fed
-
 pub returns : goal.returns
 returns g c =
     let just = c.in_ok-session.ensures in
@@ -43,15 +35,15 @@ returns g c =
     let book = c.args.artefacts.now in
     let bench = c.args.bench.now in
     let is = opened_is c.args.places.now book bench c.args.one.now seen just in
-    IfOk-weaker c.record_of.result (λ found. record_in over_now ≡ Some (recorded found)) _
-    (λ found said. λ those over more turn. record {
-      walked = over_now;
-      turn =
-          subst (λ (p : List PlaceEntry). IsTurnOf (g.B.Bench.gives bench book) (g.B.Bench.fails bench book) (g.B.Bench.starves bench book) p those over (over_now ∷ more)) just.of_places
+    let ended = c.in_ok-play_to_the_end.ensures.ended in
+    record {
+      passes = λ those over more turn.
+          next_turn (g.B.Bench.gives bench book) (g.B.Bench.fails bench book) (g.B.Bench.starves bench book) book bench c.args.places.now those over more over_now
+          (subst (λ (p : List PlaceEntry). IsTurnOf (g.B.Bench.gives bench book) (g.B.Bench.fails bench book) (g.B.Bench.starves bench book) p those over (over_now ∷ more)) just.of_places
           (c.in_ok-play_to_the_end.ensures.turn those over more
           (subst (λ (p : List PlaceEntry). IsTurnOf (g.B.Bench.gives bench book) (g.B.Bench.fails bench book) (g.B.Bench.starves bench book) p those over (walked_in seen ∷ more)) (sym just.of_places)
-          (subst (λ (w : Walked). IsTurnOf (g.B.Bench.gives bench book) (g.B.Bench.fails bench book) (g.B.Bench.starves bench book) c.args.places.now those over (w ∷ more)) (sym is) turn)));
-      ended = c.in_ok-play_to_the_end.ensures.ended;
-      recorded = said;
-    })
-    c.record_of.ensures
+          (subst (λ (w : Walked). IsTurnOf (g.B.Bench.gives bench book) (g.B.Bench.fails bench book) (g.B.Bench.starves bench book) c.args.places.now those over (w ∷ more)) (sym is) turn))))
+          ended;
+      ended = ended;
+      fed = c.in_ok-play_to_the_end.ensures.fed;
+    }
