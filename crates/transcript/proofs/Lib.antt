@@ -9,3 +9,4 @@ pub mod ReplayLemmas
 pub mod AuditLemmas
 pub mod ReadingLemmas
 pub mod WritingLemmas
+pub mod RecordingLemmas

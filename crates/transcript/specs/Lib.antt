@@ -4,3 +4,4 @@ pub mod Reading
 pub mod Written
 pub mod Flights
 pub mod Audit
+pub mod Recording
