@@ -11,6 +11,8 @@ use Rattle.appraiser.specs.Expected.{Basis}
 use Rattle.appraiser.specs.Laws.{HaveOneEach}
 use Rattle.stream_appraiser.specs.Stream.{IsAccepted, IsFound}
 use Rattle.job_reader.specs.Finding.{JobView}
+use Rattle.transcript.specs.declared.auditing.AuditError.{AuditError}
+use Rattle.transcript.specs.declared.auditing.AuditError.TheVariants as audits
 use Rattle.report_text.specs.declared.refusal.Refusal.{Refusal}
 use Rattle.report_text.specs.declared.refusal.Refusal.TheVariants as refusals
 use Rattle.copland_cli.specs.Accepting.{AcceptsExactly, IsAppraising}
@@ -21,7 +23,7 @@ use Rattle.copland_cli.specs.Meaning.{IsOfMeaning}
 use Rattle.copland_cli.specs.Outcome.{IsDecided, IsRun}
 use Rattle.copland_cli.specs.Port.{Port}
 use Rattle.copland_cli.specs.Reported.{Failing, Giving, Starving}
-use Rattle.copland_cli.specs.Status.{ending_status, status_of}
+use Rattle.copland_cli.specs.Status.{audit_status, ending_status, status_of}
 use Rattle.copland_cli.specs.declared.ending.Ending.{Ending}
 use Rattle.copland_cli.specs.declared.input.BundleNeed.TheVariants.{Required}
 use Rattle.copland_cli.specs.declared.outcome.Outcome.{Outcome}
@@ -35,11 +37,19 @@ use Rattle.copland_cli.proofs.HeadlineLemmas.{IsTold, its_job, not_refused}
 told_so : (words : List (List ℕ)) (source sink : Port) (job : JobView) (status : Status) → IsAppraising words source sink job status → IsTold Required source job status
 told_so words source sink job status a = record { bytes = a.bytes; told = a.told; short = a.short; is = a.accepted; read = a.read; memory = a.memory }
 
+no_good_audit : (error : AuditError) → ¬ (audit_status error ≡ statuses.Good)
+no_good_audit (audits.Bad at kind) h = let e = h in cc
+no_good_audit (audits.Illegal entry) h = let e = h in cc
+no_good_audit (audits.Differs entry got) h = let e = h in cc
+no_good_audit audits.Unfinished h = let e = h in cc
+no_good_audit audits.NoMemory h = let e = h in cc
+
 not_good : (why : Refusal) → IsOfMeaning why → ¬ (status_of why ≡ statuses.Good)
 not_good (refusals.NoReference event) meant h = let e = h in cc
 not_good (refusals.Ambiguous event) meant h = let e = h in cc
 not_good (refusals.BadBundle at kind) meant h = let e = h in cc
 not_good (refusals.BadShape node) meant h = let e = h in cc
+not_good (refusals.Transcript error) meant h = no_good_audit error h
 not_good _ meant h = absurd meant
 
 all_are : (good : Bool) → ending_status (ending_of_verdicts good) ≡ statuses.Good → good ≡ true

@@ -4,29 +4,32 @@ use Rattle.std.specs.Prelude.{Some}
 use Rattle.job_reader.specs.Finding.{Finding, IsFinding, JobView, accepted, refused}
 use Rattle.job_reader.specs.declared.refusal.JobError.{JobError}
 use Rattle.job_reader.specs.declared.refusal.JobError.TheVariants as errors
+use Rattle.transcript.specs.declared.auditing.AuditError.{AuditError}
+use Rattle.transcript.specs.declared.auditing.AuditError.TheVariants as audits
 use Rattle.report_text.specs.declared.refusal.Refusal.{Refusal}
 use Rattle.report_text.specs.declared.refusal.Refusal.TheVariants as refusals
 use Rattle.copland_cli.specs.Answer.{ComesAt, HasCause, IsExact, IsGiven, IsReported, IsTooLongExactly, RefusesWith, ReportsWith}
 use Rattle.copland_cli.specs.Commands.{input_of}
 use Rattle.copland_cli.specs.Concluded.{IsConcluded}
 use Rattle.copland_cli.specs.Input.{IsMade, IsReadAs, IsSubjectBy, IsUnreadable, IsWithoutSubject, IsWithoutSubjectBy, is_required}
-use Rattle.copland_cli.specs.Meaning.{IsOfMeaning}
+use Rattle.copland_cli.specs.Meaning.{IsOfMeaning, RefusesJob}
 use Rattle.copland_cli.specs.Outcome.{IsDecided, IsRun}
 use Rattle.copland_cli.specs.Port.{Port, IsTooLong, MetFault, input_limit}
 use Rattle.copland_cli.specs.Reported.{Failing, Giving, Starving}
-use Rattle.copland_cli.specs.Status.{ending_status, job_status, status_of}
+use Rattle.copland_cli.specs.Status.{audit_status, ending_status, job_status, status_of}
 use Rattle.copland_cli.specs.Words.{IsBadWords, Spells}
 use Rattle.copland_cli.specs.declared.ending.Ending.{Ending}
 use Rattle.copland_cli.specs.declared.ending.Ending.TheVariants as endings
 use Rattle.copland_cli.specs.declared.input.BundleNeed.{BundleNeed}
 use Rattle.copland_cli.specs.declared.input.Input.{Input}
 use Rattle.copland_cli.specs.declared.input.Input.TheVariants.{Nothing, Job}
-use Rattle.copland_cli.specs.Command.{Command, Check, Shape, Events, Code, Eval, Walk, Order, Choose, Attest, Appraise, Upgrade, Load}
+use Rattle.copland_cli.specs.Command.{Command, Check, Shape, Events, Code, Eval, Walk, Order, Choose, Attest, Appraise, Upgrade, Load, Audit}
 use Rattle.copland_cli.specs.declared.outcome.Report.{Report}
 use Rattle.copland_cli.specs.declared.outcome.Outcome.{Outcome}
 use Rattle.copland_cli.specs.declared.outcome.Outcome.TheVariants.{Refused, Reported}
 use Rattle.copland_cli.specs.declared.status.Status.{Status}
 use Rattle.copland_cli.specs.declared.status.Status.TheVariants as statuses
+use Rattle.copland_cli.proofs.AppraiseLemmas.{no_transcript_of_verdicts}
 use Rattle.copland_cli.proofs.MeaningLemmas.{decisive}
 use Rattle.copland_cli.proofs.PortLemmas.{none_given, not_both, whole, within}
 use Rattle.copland_cli.proofs.WordLemmas.{one_command}
@@ -49,15 +52,28 @@ job_cause Decided sink (errors.Misplaced session event kind) status never is h =
 job_cause Decided sink (errors.Oversize session event) status never is h = moved Decided sink statuses.Oversize status is (session, event, h)
 job_cause Decided sink errors.NoMemory status never is h = absurd (never h.0)
 
-refusal_cause : (Decided : Outcome → Type 0) (sink : Port) (why : Refusal) (status : Status) → ¬ Decided (Refused (refusals.Job errors.NoMemory)) → status ≡ status_of why → RefusesWith Decided sink why → HasCause Decided sink status
+audit_cause : (Decided : Outcome → Type 0) (sink : Port) (error : AuditError) (status : Status) → ¬ Decided (Refused (refusals.Transcript audits.NoMemory)) → status ≡ audit_status error → RefusesWith Decided sink (refusals.Transcript error) → HasCause Decided sink status
+audit_cause Decided sink (audits.Bad at kind) status never is h = moved Decided sink statuses.BadTranscript status is (audits.Bad at kind, h)
+audit_cause Decided sink (audits.Illegal entry) status never is h = moved Decided sink statuses.BadTranscript status is (audits.Illegal entry, h)
+audit_cause Decided sink (audits.Differs entry got) status never is h = moved Decided sink statuses.BadTranscript status is (audits.Differs entry got, h)
+audit_cause Decided sink audits.Unfinished status never is h = moved Decided sink statuses.BadTranscript status is (audits.Unfinished, h)
+audit_cause Decided sink audits.NoMemory status never is h = absurd (never h.0)
+
+-- want of memory is a refusal of its own, and none within another
+record IsPlainWant (Decided : Outcome → Type 0) : Type 0 where
+  job : ¬ Decided (Refused (refusals.Job errors.NoMemory))
+  audit : ¬ Decided (Refused (refusals.Transcript audits.NoMemory))
+
+refusal_cause : (Decided : Outcome → Type 0) (sink : Port) (why : Refusal) (status : Status) → IsPlainWant Decided → status ≡ status_of why → RefusesWith Decided sink why → HasCause Decided sink status
 refusal_cause Decided sink refusals.Words status never is h = moved Decided sink statuses.BadWords status is h
 refusal_cause Decided sink refusals.ReadFault status never is h = moved Decided sink statuses.ReadFault status is h
 refusal_cause Decided sink refusals.TooLong status never is h = moved Decided sink statuses.TooLong status is h
-refusal_cause Decided sink (refusals.Job error) status never is h = job_cause Decided sink error status never is h
+refusal_cause Decided sink (refusals.Job error) status never is h = job_cause Decided sink error status never.job is h
 refusal_cause Decided sink (refusals.NoReference event) status never is h = moved Decided sink statuses.NoReference status is (event, h)
 refusal_cause Decided sink (refusals.Ambiguous event) status never is h = moved Decided sink statuses.Ambiguous status is (event, h)
 refusal_cause Decided sink (refusals.BadBundle at kind) status never is h = moved Decided sink statuses.BadBundle status is (inl (at, kind, h))
 refusal_cause Decided sink (refusals.BadShape node) status never is h = moved Decided sink statuses.BadBundle status is (inr (node, h))
+refusal_cause Decided sink (refusals.Transcript error) status never is h = audit_cause Decided sink error status never.audit is h
 refusal_cause Decided sink refusals.NoMemory status never is h = moved Decided sink statuses.NoMemory status is h
 
 ending_cause : (Decided : Outcome → Type 0) (sink : Port) (ending : Ending) (status : Status) → status ≡ ending_status ending → ReportsWith Decided sink ending → HasCause Decided sink status
@@ -67,7 +83,7 @@ ending_cause Decided sink endings.ClaimBroken status is h = moved Decided sink s
 ending_cause Decided sink endings.Denied status is h = moved Decided sink statuses.Denied status is h
 ending_cause Decided sink endings.Rejected status is h = moved Decided sink statuses.Rejected status is h
 
-cause : (Decided : Outcome → Type 0) (sink : Port) (outcome : Outcome) (status : Status) → ¬ Decided (Refused (refusals.Job errors.NoMemory)) → Decided outcome → IsConcluded sink outcome status → HasCause Decided sink status
+cause : (Decided : Outcome → Type 0) (sink : Port) (outcome : Outcome) (status : Status) → IsPlainWant Decided → Decided outcome → IsConcluded sink outcome status → HasCause Decided sink status
 cause Decided sink (Refused why) status never h c = refusal_cause Decided sink why status never c.0 (h, c.1)
 cause Decided sink (Reported report) status never h (inl written) =
     ending_cause Decided sink report.ending status written.0 (report, h, refl, written.1)
@@ -95,9 +111,37 @@ never_starved_job Known Gives Fails Starves words source (inl run) =
     no_such_run Gives Fails Starves run.0 source (refusals.Job errors.NoMemory) (λ h. h) (not_starved_job (input_of run.0) source) run.3
 never_starved_job Known Gives Fails Starves words source (inr bad) = let e = bad.2 in cc
 
+not_starved_audit : (input : Input) (source : Port) → ¬ IsWithoutSubjectBy input source (refusals.Transcript audits.NoMemory)
+not_starved_audit Nothing source h = let e = h.0 in cc
+not_starved_audit (Job need) source h = h
+
+-- want of memory in an audit is none of its refusals
+never_meant : (Gives : Giving) (Fails : Failing) (Starves : Starving) (command : Command) (job : JobView) → ¬ RefusesJob Gives Fails Starves command job (refusals.Transcript audits.NoMemory)
+never_meant Gives Fails Starves Check job h = h
+never_meant Gives Fails Starves Shape job h = h
+never_meant Gives Fails Starves Events job h = h
+never_meant Gives Fails Starves Code job h = h
+never_meant Gives Fails Starves Eval job h = h
+never_meant Gives Fails Starves (Walk number) job h = h
+never_meant Gives Fails Starves (Order text) job h = h
+never_meant Gives Fails Starves (Choose text) job h = h
+never_meant Gives Fails Starves (Attest workers) job h = h
+never_meant Gives Fails Starves Appraise job h = no_transcript_of_verdicts job audits.NoMemory h
+never_meant Gives Fails Starves Upgrade job h = h.2
+never_meant Gives Fails Starves (Load number) job h = h
+never_meant Gives Fails Starves Audit job h = h.2.0 refl
+
+never_starved_run : (Gives : Giving) (Fails : Failing) (Starves : Starving) (command : Command) (source : Port) → ¬ IsRun Gives Fails Starves command source (Refused (refusals.Transcript audits.NoMemory))
+never_starved_run Gives Fails Starves command source (inl h) = not_starved_audit (input_of command) source h
+never_starved_run Gives Fails Starves command source (inr h) = never_meant Gives Fails Starves command h.0 h.2
+
+never_starved_audit : (Known : Command → Type 0) (Gives : Giving) (Fails : Failing) (Starves : Starving) (words : List (List ℕ)) (source : Port) → ¬ IsDecided Known Gives Fails Starves words source (Refused (refusals.Transcript audits.NoMemory))
+never_starved_audit Known Gives Fails Starves words source (inl run) = never_starved_run Gives Fails Starves run.0 source run.3
+never_starved_audit Known Gives Fails Starves words source (inr bad) = let e = bad.2 in cc
+
 pub causes : (Known : Command → Type 0) (Gives : Giving) (Fails : Failing) (Starves : Starving) (words : List (List ℕ)) (source sink : Port) (outcome : Outcome) (status : Status) → IsDecided Known Gives Fails Starves words source outcome → IsConcluded sink outcome status → HasCause (IsDecided Known Gives Fails Starves words source) sink status
 causes Known Gives Fails Starves words source sink outcome status h c =
-    cause (IsDecided Known Gives Fails Starves words source) sink outcome status (never_starved_job Known Gives Fails Starves words source) h c
+    cause (IsDecided Known Gives Fails Starves words source) sink outcome status (record { job = never_starved_job Known Gives Fails Starves words source; audit = never_starved_audit Known Gives Fails Starves words source }) h c
 
 -- ---- bad words, both ways
 
@@ -140,9 +184,9 @@ record Calm (source : Port) (status : Status) : Type 0 where
   kept : ¬ MetFault source
   memory : status ≢ statuses.NoMemory
 
-comes_so : (Gives : Giving) (Fails : Failing) (Starves : Starving) (command : Command) (sink : Port) (one other : Finding) (status : Status) → one ≡ other → ComesAt Gives Fails command sink one status → ComesAt Gives Fails command sink other status
+comes_so : (Gives : Giving) (Fails : Failing) (Starves : Starving) (command : Command) (sink : Port) (one other : Finding) (status : Status) → one ≡ other → ComesAt Gives Fails Starves command sink one status → ComesAt Gives Fails Starves command sink other status
 comes_so Gives Fails Starves command sink one other status same h =
-    subst (λ (f : Finding). ComesAt Gives Fails command sink f status) same h
+    subst (λ (f : Finding). ComesAt Gives Fails Starves command sink f status) same h
 
 -- a command makes one job
 one_made : (command : Command) (one other : JobView) → IsMade command one → IsMade command other → one ≡ other
@@ -158,6 +202,7 @@ one_made (Attest workers) one other h k = absurd h
 one_made Appraise one other h k = absurd h
 one_made Upgrade one other h k = absurd h
 one_made (Load number) one other h k = h ∙ sym k
+one_made Audit one other h k = absurd h
 
 -- the subject is the job that is given
 same_subject : (input : Input) (command : Command) (source : Port) (finding : Finding) (job : JobView) → IsGiven input command source finding → IsSubjectBy input command source job → accepted job ≡ finding
@@ -166,7 +211,7 @@ same_subject Nothing command source (refused error) job given subject = absurd g
 same_subject (Job need) command source finding job given subject =
     same_finding need source given.0 finding (accepted job) given.1 given.3 subject
 
-exact_unreadable : (Gives : Giving) (Fails : Failing) (Starves : Starving) (command : Command) (need : BundleNeed) (source sink : Port) (why : Refusal) (status : Status) (finding : Finding) → (bytes : List ℕ) → source.bytes_before ≡ Some bytes → length bytes ≤ input_limit → IsFinding bytes (is_required need) finding → Calm source status → status ≡ status_of why → IsUnreadable need source why → ComesAt Gives Fails command sink finding status
+exact_unreadable : (Gives : Giving) (Fails : Failing) (Starves : Starving) (command : Command) (need : BundleNeed) (source sink : Port) (why : Refusal) (status : Status) (finding : Finding) → (bytes : List ℕ) → source.bytes_before ≡ Some bytes → length bytes ≤ input_limit → IsFinding bytes (is_required need) finding → Calm source status → status ≡ status_of why → IsUnreadable need source why → ComesAt Gives Fails Starves command sink finding status
 exact_unreadable Gives Fails Starves command need source sink refusals.Words status finding bytes told short is calm at h = absurd h
 exact_unreadable Gives Fails Starves command need source sink refusals.ReadFault status finding bytes told short is calm at h = absurd (calm.kept h.0)
 exact_unreadable Gives Fails Starves command need source sink refusals.TooLong status finding bytes told short is calm at h =
@@ -177,9 +222,10 @@ exact_unreadable Gives Fails Starves command need source sink (refusals.NoRefere
 exact_unreadable Gives Fails Starves command need source sink (refusals.Ambiguous event) status finding bytes told short is calm at h = absurd h
 exact_unreadable Gives Fails Starves command need source sink (refusals.BadBundle place kind) status finding bytes told short is calm at h = absurd h
 exact_unreadable Gives Fails Starves command need source sink (refusals.BadShape node) status finding bytes told short is calm at h = absurd h
+exact_unreadable Gives Fails Starves command need source sink (refusals.Transcript error) status finding bytes told short is calm at h = absurd h
 exact_unreadable Gives Fails Starves command need source sink refusals.NoMemory status finding bytes told short is calm at h = absurd (calm.memory at)
 
-exact_without : (Gives : Giving) (Fails : Failing) (Starves : Starving) (command : Command) (input : Input) (source sink : Port) (why : Refusal) (status : Status) (finding : Finding) → IsGiven input command source finding → Calm source status → status ≡ status_of why → IsWithoutSubjectBy input source why → ComesAt Gives Fails command sink finding status
+exact_without : (Gives : Giving) (Fails : Failing) (Starves : Starving) (command : Command) (input : Input) (source sink : Port) (why : Refusal) (status : Status) (finding : Finding) → IsGiven input command source finding → Calm source status → status ≡ status_of why → IsWithoutSubjectBy input source why → ComesAt Gives Fails Starves command sink finding status
 exact_without Gives Fails Starves command Nothing source sink why status finding given calm at h = absurd (calm.memory (at ∙ ap (λ w. status_of w) h.0))
 exact_without Gives Fails Starves command (Job need) source sink why status finding given calm at h =
     exact_unreadable Gives Fails Starves command need source sink why status finding given.0 given.1 given.2 given.3 calm at h
@@ -188,23 +234,23 @@ reported : (sink : Port) (report : Report) (status : Status) → IsConcluded sin
 reported sink report status (inl written) = inl (report.ending, written.0)
 reported sink report status (inr cut) = inr (cut.0, cut.1.0)
 
-exact_run : (Gives : Giving) (Fails : Failing) (Starves : Starving) (command : Command) (source sink : Port) (outcome : Outcome) (status : Status) (finding : Finding) → IsGiven (input_of command) command source finding → Calm source status → IsRun Gives Fails Starves command source outcome → IsConcluded sink outcome status → ComesAt Gives Fails command sink finding status
+exact_run : (Gives : Giving) (Fails : Failing) (Starves : Starving) (command : Command) (source sink : Port) (outcome : Outcome) (status : Status) (finding : Finding) → IsGiven (input_of command) command source finding → Calm source status → IsRun Gives Fails Starves command source outcome → IsConcluded sink outcome status → ComesAt Gives Fails Starves command sink finding status
 exact_run Gives Fails Starves command source sink (Refused why) status finding given calm (inl h) c =
     exact_without Gives Fails Starves command (input_of command) source sink why status finding given calm c.0 h
 exact_run Gives Fails Starves command source sink (Refused why) status finding given calm (inr h) c =
     let law = decisive Gives Fails Starves command h.0 in
-    comes_so Gives Fails Starves command sink (accepted h.0) finding status (same_subject (input_of command) command source finding h.0 given h.1) (
-      λ other refuses. c.0 ∙ ap (λ w. status_of w) (law.one_refusal why other h.2 refuses),
+    comes_so Gives Fails Starves command sink (accepted h.0) finding status (same_subject (input_of command) command source finding h.0 given h.1) (λ sure. (
+      λ other refuses. c.0 ∙ ap (λ w. status_of w) (law.one_refusal sure why other h.2 refuses),
       λ none. absurd (none why h.2),
-    )
+    ))
 exact_run Gives Fails Starves command source sink (Reported report) status finding given calm h c =
     let law = decisive Gives Fails Starves command h.0 in
-    comes_so Gives Fails Starves command sink (accepted h.0) finding status (same_subject (input_of command) command source finding h.0 given h.1) (
-      λ why refuses. absurd (law.not_both why report.text report.ending refuses h.2),
+    comes_so Gives Fails Starves command sink (accepted h.0) finding status (same_subject (input_of command) command source finding h.0 given h.1) (λ sure. (
+      λ why refuses. absurd (law.not_both sure why report.text report.ending refuses h.2),
       λ none. reported sink report status c,
-    )
+    ))
 
-pub exact : (Known : Command → Type 0) (Gives : Giving) (Fails : Failing) (Starves : Starving) (words : List (List ℕ)) (source sink : Port) (outcome : Outcome) (status : Status) → IsDecided Known Gives Fails Starves words source outcome → IsConcluded sink outcome status → IsExact Known Gives Fails words source sink status
+pub exact : (Known : Command → Type 0) (Gives : Giving) (Fails : Failing) (Starves : Starving) (words : List (List ℕ)) (source sink : Port) (outcome : Outcome) (status : Status) → IsDecided Known Gives Fails Starves words source outcome → IsConcluded sink outcome status → IsExact Known Gives Fails Starves words source sink status
 exact Known Gives Fails Starves words source sink outcome status h c = λ command finding spelled known kept memory given.
     exact_run Gives Fails Starves command source sink outcome status finding given (record { kept = kept; memory = memory })
     (run_of Known Gives Fails Starves words source outcome command h spelled known) c
@@ -220,6 +266,7 @@ long_unreadable need source left (refusals.NoReference event) status told long a
 long_unreadable need source left (refusals.Ambiguous event) status told long at h = absurd h
 long_unreadable need source left (refusals.BadBundle place kind) status told long at h = absurd h
 long_unreadable need source left (refusals.BadShape node) status told long at h = absurd h
+long_unreadable need source left (refusals.Transcript error) status told long at h = absurd h
 long_unreadable need source left refusals.NoMemory status told long at h = absurd (not_both source left h.0 told long h.1 h.2)
 
 long_without : (input : Input) (source : Port) (left : List ℕ) (why : Refusal) (status : Status) → source.bytes_before ≡ Some left → IsTooLong source → status ≡ status_of why → IsWithoutSubjectBy input source why → status ≡ statuses.TooLong

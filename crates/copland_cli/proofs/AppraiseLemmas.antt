@@ -21,8 +21,9 @@ use Rattle.job_reader.specs.Finding.{JobView}
 use Rattle.job_reader.specs.declared.accepted.BundleIn.{BundleIn}
 use Rattle.session_model.specs.Session.{Session}
 use Rattle.report_text.specs.Verdicts.{upgrade_text, verdicts_text}
+use Rattle.transcript.specs.declared.auditing.AuditError.{AuditError}
 use Rattle.report_text.specs.declared.refusal.Refusal.{Refusal}
-use Rattle.report_text.specs.declared.refusal.Refusal.TheVariants.{NoReference, Ambiguous, BadBundle, BadShape}
+use Rattle.report_text.specs.declared.refusal.Refusal.TheVariants.{NoReference, Ambiguous, BadBundle, BadShape, Transcript}
 use Rattle.copland_cli.specs.Appraised.{HasNoUpgrade, HasNoValue, HasNoVerdict, HasNoVerdicts, HasValue, IsOfUpgrade, IsOfVerdicts, IsOffered, LacksReferences, Offer, basis_in, ending_of_verdicts, shape_in}
 use Rattle.copland_cli.specs.Meaning.{IsOfMeaning}
 use Rattle.copland_cli.specs.declared.ending.Ending.{Ending}
@@ -143,11 +144,18 @@ late_verdict : (places : List PlaceEntry) (references : List Reference) (bytes :
 late_verdict places references bytes shape why (inl h) = late_lack references shape why h
 late_verdict places references bytes shape why (inr h) = late_value places bytes shape why h.1
 
+no_transcript_of_verdict : (places : List PlaceEntry) (references : List Reference) (bytes : List ℕ) (shape : Form) (error : AuditError) → ¬ HasNoVerdict places references bytes shape (Transcript error)
+no_transcript_of_verdict places references bytes shape error (inl h) = h
+no_transcript_of_verdict places references bytes shape error (inr h) = h.1
+
 pub verdicts_late : (job : JobView) (why : Refusal) → HasNoVerdicts job why → IsOfMeaning why
 verdicts_late job why h = late_verdict job.places job.references h.0.bundle.bytes (shape_in h.0) why h.2
 
 pub upgrade_late : (job : JobView) (why : Refusal) → HasNoUpgrade job why → IsOfMeaning why
 upgrade_late job why h = late_value job.places h.0.bundle.bytes (shape_in h.0) why h.2
+
+pub no_transcript_of_verdicts : (job : JobView) (error : AuditError) → ¬ HasNoVerdicts job (Transcript error)
+no_transcript_of_verdicts job error h = no_transcript_of_verdict job.places job.references h.0.bundle.bytes (shape_in h.0) error h.2
 
 pub verdicts_one : (job : JobView) (why other : Refusal) → HasNoVerdicts job why → HasNoVerdicts job other → why ≡ other
 verdicts_one job why other h k =

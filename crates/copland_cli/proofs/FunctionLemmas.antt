@@ -31,7 +31,8 @@ use Rattle.copland_cli.specs.Meaning.{IsOfLoadIn, IsOfRecordsIn, IsOfWalkIn, IsR
 use Rattle.copland_cli.specs.Reported.{AreRecords, Failing, Giving, Starving, SaysOfEach, aspect_text, ending_of, some_failed}
 use Rattle.copland_cli.specs.declared.ending.Ending.{Ending}
 use Rattle.copland_cli.specs.declared.session.Aspect.TheVariants as aspects
-use Rattle.copland_cli.specs.Command.{Command, Check, Shape, Events, Code, Eval, Walk, Order, Choose, Attest, Appraise, Upgrade, Load}
+use Rattle.copland_cli.specs.Command.{Command, Check, Shape, Events, Code, Eval, Walk, Order, Choose, Attest, Appraise, Upgrade, Load, Audit}
+use Rattle.copland_cli.proofs.AuditLemmas.{same_audit}
 use Rattle.copland_cli.proofs.AppraiseLemmas.{same_upgrade, same_verdicts}
 
 -- a session has one rising record
@@ -136,6 +137,7 @@ on_one_job Gives Fails Starves law walks laws (Attest workers) job text other en
 on_one_job Gives Fails Starves law walks laws Appraise job text other ending ended plain h k = same_verdicts job text other ending ended h k
 on_one_job Gives Fails Starves law walks laws Upgrade job text other ending ended plain h k = same_upgrade job text other ending ended h k
 on_one_job Gives Fails Starves law walks laws (Load number) job text other ending ended plain h k = same_of_loads Gives Fails law job number text other ending ended h k
+on_one_job Gives Fails Starves law walks laws Audit job text other ending ended plain h k = same_audit Gives Fails Starves job text other ending ended h k
 
 -- two jobs that are one finding are one job
 pub same_job : (job other : JobView) → accepted job ≡ accepted other → other ≡ job

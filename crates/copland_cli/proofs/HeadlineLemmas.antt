@@ -6,7 +6,7 @@ use Rattle.report_text.specs.declared.refusal.Refusal.{Refusal}
 use Rattle.report_text.specs.declared.refusal.Refusal.TheVariants as refusals
 use Rattle.copland_cli.specs.Answer.{IsAnswer}
 use Rattle.copland_cli.specs.Attested.{AttestsEachJob, HasAttested, IsAttesting, IsOfAttestations}
-use Rattle.copland_cli.specs.Command.{Command, Check, Shape, Events, Code, Eval, Walk, Order, Choose, Attest, Appraise, Upgrade, Load}
+use Rattle.copland_cli.specs.Command.{Command, Check, Shape, Events, Code, Eval, Walk, Order, Choose, Attest, Appraise, Upgrade, Load, Audit}
 use Rattle.copland_cli.specs.Commands.{IsAny, IsPlain}
 use Rattle.copland_cli.specs.Concluded.{IsConcluded}
 use Rattle.copland_cli.specs.Input.{IsReadAs, IsUnreadable, is_required}
@@ -40,6 +40,7 @@ none_known words none bad (Attest workers) spelled = none workers spelled
 none_known words none bad Appraise spelled = bad Appraise spelled tt
 none_known words none bad Upgrade spelled = bad Upgrade spelled tt
 none_known words none bad (Load number) spelled = bad (Load number) spelled tt
+none_known words none bad Audit spelled = bad Audit spelled tt
 
 decided_of_any : (Gives : Giving) (Fails : Failing) (Starves : Starving) (words : List (List ℕ)) (source : Port) (outcome : Outcome) → ((workers : ℕ) → ¬ Spells words (Attest workers)) → IsDecided IsPlain Gives Fails Starves words source outcome → IsDecided IsAny Gives Fails Starves words source outcome
 decided_of_any Gives Fails Starves words source outcome none (inl run) = inl (run.0, run.1, tt, run.3)
@@ -79,6 +80,7 @@ not_refused need source job status (refusals.NoReference event) a at h = h
 not_refused need source job status (refusals.Ambiguous event) a at h = h
 not_refused need source job status (refusals.BadBundle place kind) a at h = h
 not_refused need source job status (refusals.BadShape node) a at h = h
+not_refused need source job status (refusals.Transcript error) a at h = h
 not_refused need source job status refusals.NoMemory a at h = a.memory at
 
 told_so : (words : List (List ℕ)) (source sink : Port) (job : JobView) (status : Status) → IsAttesting words source sink job status → IsTold Optional source job status

@@ -2,6 +2,7 @@ pub mod WordLemmas
 pub mod PortLemmas
 pub mod FeedLemmas
 pub mod AppraiseLemmas
+pub mod AuditLemmas
 pub mod OfferLemmas
 pub mod MeaningLemmas
 pub mod OutcomeLemmas

@@ -3,7 +3,7 @@ use Rattle.std.proofs.Common.{◌≡◌, ◌<◌, ◌^◌, ℕ, List, [], ◌∷
 use Rattle.std.specs.Prelude.{◌≢◌, codes, decimal, nat_eq, if◌then◌else◌, MatchOption, Option, None, Some}
 use lib.Pointwise.{pointwise}
 use Rattle.std.proofs.lemmas.Fmt.{decimal_injective}
-use Rattle.copland_cli.specs.Command.{Command, Check, Shape, Events, Code, Eval, Walk, Order, Choose, Attest, Appraise, Upgrade, Load}
+use Rattle.copland_cli.specs.Command.{Command, Check, Shape, Events, Code, Eval, Walk, Order, Choose, Attest, Appraise, Upgrade, Load, Audit}
 use Rattle.copland_cli.specs.Words.{Spells}
 
 -- commands without their numbers and texts
@@ -20,6 +20,7 @@ data Kind : Type 0 where
   appraise : Kind
   upgrade : Kind
   load : Kind
+  audit : Kind
 
 abbrev kind_of : Command → Kind
 kind_of Check = check
@@ -34,6 +35,7 @@ kind_of (Attest workers) = attest
 kind_of Appraise = appraise
 kind_of Upgrade = upgrade
 kind_of (Load number) = load
+kind_of Audit = audit
 
 -- the number of a command that has one
 abbrev number_of : Command → ℕ
@@ -49,6 +51,7 @@ number_of (Attest workers) = workers
 number_of Appraise = 0
 number_of Upgrade = 0
 number_of (Load number) = number
+number_of Audit = 0
 
 -- the last word of a command, where it has more than one; else a zero
 abbrev last_of : Command → List ℕ
@@ -64,6 +67,7 @@ last_of (Attest workers) = decimal workers
 last_of Appraise = decimal 0
 last_of Upgrade = decimal 0
 last_of (Load number) = decimal number
+last_of Audit = decimal 0
 
 abbrev command_of : Kind → ℕ → List ℕ → Command
 command_of check number text = Check
@@ -78,6 +82,7 @@ command_of attest number text = Attest number
 command_of appraise number text = Appraise
 command_of upgrade number text = Upgrade
 command_of load number text = Load number
+command_of audit number text = Audit
 
 parts : (command : Command) → command_of (kind_of command) (number_of command) (last_of command) ≡ command
 parts Check = refl
@@ -92,6 +97,7 @@ parts (Attest workers) = refl
 parts Appraise = refl
 parts Upgrade = refl
 parts (Load number) = refl
+parts Audit = refl
 
 -- the number as a word, where the last word is that of a number
 abbrev number_word : Kind → List ℕ → List ℕ
@@ -107,6 +113,7 @@ number_word attest last = last
 number_word appraise last = last
 number_word upgrade last = last
 number_word load last = last
+number_word audit last = last
 
 number_is : (command : Command) → number_word (kind_of command) (last_of command) ≡ decimal (number_of command)
 number_is Check = refl
@@ -121,6 +128,7 @@ number_is (Attest workers) = refl
 number_is Appraise = refl
 number_is Upgrade = refl
 number_is (Load number) = refl
+number_is Audit = refl
 
 -- the kind that a first word names
 abbrev kind_named : List ℕ → Option Kind
@@ -137,6 +145,7 @@ kind_named word =
     else if pointwise nat_eq word (codes "appraise") then Some appraise
     else if pointwise nat_eq word (codes "upgrade") then Some upgrade
     else if pointwise nat_eq word (codes "load") then Some load
+    else if pointwise nat_eq word (codes "audit") then Some audit
     else None
 
 abbrev kind_among : List (List ℕ) → Option Kind
@@ -169,6 +178,7 @@ tells words (Attest workers) h = record { kind = ap (λ w. kind_among w) h.0; la
 tells words Appraise h = record { kind = ap (λ w. kind_among w) h; last = ap (λ w. last_among w) h; small = omega arith }
 tells words Upgrade h = record { kind = ap (λ w. kind_among w) h; last = ap (λ w. last_among w) h; small = omega arith }
 tells words (Load number) h = record { kind = ap (λ w. kind_among w) h.0; last = ap (λ w. last_among w) h.0; small = h.1 }
+tells words Audit h = record { kind = ap (λ w. kind_among w) h; last = ap (λ w. last_among w) h; small = omega arith }
 
 pub one_command : (words : List (List ℕ)) (one other : Command) → Spells words one → Spells words other → one ≡ other
 one_command words one other h k =

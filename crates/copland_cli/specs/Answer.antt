@@ -7,15 +7,16 @@ use Rattle.job_values.specs.declared.path.FieldKind.{FieldKind}
 use Rattle.evidence_codec.specs.declared.fault.BadKind.{BadKind}
 use Rattle.job_reader.specs.Finding.{Finding, IsFinding, accepted, refused}
 use Rattle.job_reader.specs.declared.refusal.JobError.TheVariants as errors
+use Rattle.transcript.specs.declared.auditing.AuditError.{AuditError}
 use Rattle.report_text.specs.Refusal.{line_of}
 use Rattle.report_text.specs.declared.refusal.Refusal.{Refusal}
 use Rattle.report_text.specs.declared.refusal.Refusal.TheVariants as refusals
 use Rattle.copland_cli.specs.Commands.{input_of}
 use Rattle.copland_cli.specs.Concluded.{IsConcluded}
 use Rattle.copland_cli.specs.Input.{IsMade, is_required}
-use Rattle.copland_cli.specs.Meaning.{RefusesJob}
+use Rattle.copland_cli.specs.Meaning.{IsSure, RefusesJob}
 use Rattle.copland_cli.specs.Port.{Port, IsTooLong, MetFault, TookAll, TookFront, TookLine, input_limit}
-use Rattle.copland_cli.specs.Reported.{Failing, Giving}
+use Rattle.copland_cli.specs.Reported.{Failing, Giving, Starving}
 use Rattle.copland_cli.specs.Status.{ending_status, job_status, status_of}
 use Rattle.copland_cli.specs.Words.{Spells}
 use Rattle.copland_cli.specs.declared.ending.Ending.{Ending}
@@ -27,7 +28,7 @@ use Rattle.copland_cli.specs.declared.outcome.Outcome.{Outcome}
 use Rattle.copland_cli.specs.declared.outcome.Report.{Report}
 use Rattle.copland_cli.specs.declared.outcome.Outcome.TheVariants.{Refused, Reported}
 use Rattle.copland_cli.specs.declared.status.Status.{Status}
-use Rattle.copland_cli.specs.declared.status.Status.TheVariants.{Good, SomeFailed, ClaimBroken, Denied, Rejected, BadWords, ReadFault, TooLong, NotJson, BadJob, RepeatedPlace, RepeatedArtefact, RepeatedReference, BadRoot, RepeatedNonce, BadPhrase, Misplaced, Oversize, NoReference, Ambiguous, BadBundle, WriteFault, NoMemory}
+use Rattle.copland_cli.specs.declared.status.Status.TheVariants.{Good, SomeFailed, ClaimBroken, Denied, Rejected, BadWords, ReadFault, TooLong, NotJson, BadJob, RepeatedPlace, RepeatedArtefact, RepeatedReference, BadRoot, RepeatedNonce, BadPhrase, Misplaced, Oversize, NoReference, Ambiguous, BadBundle, BadTranscript, WriteFault, NoMemory}
 
 -- some outcome, decided so and concluded so
 abbrev pub IsAnswer : (Outcome → Type 0) → Port → Status → Type 0
@@ -77,6 +78,7 @@ HasCause Decided sink Ambiguous = (event : ℕ) × RefusesWith Decided sink (ref
 HasCause Decided sink BadBundle =
     ((at : ℕ) × (kind : BadKind) × RefusesWith Decided sink (refusals.BadBundle at kind))
     ⊎ ((node : ℕ) × RefusesWith Decided sink (refusals.BadShape node))
+HasCause Decided sink BadTranscript = (error : AuditError) × RefusesWith Decided sink (refusals.Transcript error)
 HasCause Decided sink WriteFault = (report : Report) × Decided (Reported report) × TookFront sink report.text
 HasCause Decided sink NoMemory = RefusesWith Decided sink refusals.NoMemory
 
@@ -96,18 +98,18 @@ IsReported sink status =
     ((ending : Ending) × (status ≡ ending_status ending)) ⊎ ((status ≡ WriteFault) × MetFault sink)
 
 -- a job that is refused has its refusal's status; one that is accepted has that of the command's refusal
--- where there is one, and else a report
-abbrev pub ComesAt : Giving → Failing → Command → Port → Finding → Status → Type 0
-ComesAt Gives Fails command sink (refused error) status = status ≡ job_status error
-ComesAt Gives Fails command sink (accepted job) status =
-    ((why : Refusal) → RefusesJob Gives Fails command job why → status ≡ status_of why)
-    × (((why : Refusal) → ¬ RefusesJob Gives Fails command job why) → IsReported sink status)
+-- where there is one, and else a report, unless the bench leaves the answer open
+abbrev pub ComesAt : Giving → Failing → Starving → Command → Port → Finding → Status → Type 0
+ComesAt Gives Fails Starves command sink (refused error) status = status ≡ job_status error
+ComesAt Gives Fails Starves command sink (accepted job) status =
+    IsSure Gives Fails command job → ((why : Refusal) → RefusesJob Gives Fails Starves command job why → status ≡ status_of why)
+    × (((why : Refusal) → ¬ RefusesJob Gives Fails Starves command job why) → IsReported sink status)
 
 -- where the source met no fault and memory sufficed, the answer to the words of a command is the one for which
 -- the command's input calls
-abbrev pub IsExact : (Command → Type 0) → Giving → Failing → List (List ℕ) → Port → Port → Status → Type 0
-IsExact Known Gives Fails words source sink status =
-    (command : Command) (finding : Finding) → Spells words command → Known command → ¬ MetFault source → status ≢ NoMemory → IsGiven (input_of command) command source finding → ComesAt Gives Fails command sink finding status
+abbrev pub IsExact : (Command → Type 0) → Giving → Failing → Starving → List (List ℕ) → Port → Port → Status → Type 0
+IsExact Known Gives Fails Starves words source sink status =
+    (command : Command) (finding : Finding) → Spells words command → Known command → ¬ MetFault source → status ≢ NoMemory → IsGiven (input_of command) command source finding → ComesAt Gives Fails Starves command sink finding status
 
 -- a source that tells its bytes gave too many of them exactly where the answer says so
 abbrev pub IsTooLongExactly : (Command → Type 0) → List (List ℕ) → Port → Status → Type 0

@@ -17,7 +17,7 @@ use Rattle.job_reader.specs.Finding.{JobView}
 use Rattle.job_reader.specs.declared.accepted.BundleIn.{BundleIn}
 use Rattle.report_text.specs.Verdicts.{upgrade_text, verdicts_text}
 use Rattle.report_text.specs.declared.refusal.Refusal.{Refusal}
-use Rattle.report_text.specs.declared.refusal.Refusal.TheVariants.{Words, ReadFault, TooLong, Job, NoReference, Ambiguous, BadBundle, BadShape, NoMemory}
+use Rattle.report_text.specs.declared.refusal.Refusal.TheVariants.{Words, ReadFault, TooLong, Job, NoReference, Ambiguous, BadBundle, BadShape, Transcript, NoMemory}
 use Rattle.copland_cli.specs.declared.ending.Ending.{Ending}
 use Rattle.copland_cli.specs.declared.ending.Ending.TheVariants.{Good, Rejected}
 
@@ -60,6 +60,7 @@ HasNoValue places bytes shape (NoReference event) = ⊥
 HasNoValue places bytes shape (Ambiguous event) = ⊥
 HasNoValue places bytes shape (BadBundle at kind) = first_fault_of_either bytes ≡ Some (fault at kind)
 HasNoValue places bytes shape (BadShape node) = IsFound places bytes shape (Some node)
+HasNoValue places bytes shape (Transcript error) = ⊥
 HasNoValue places bytes shape NoMemory = ⊥
 
 -- why a shape's references don't do: the least event of a measurement that has none; or else the least one of a
@@ -75,6 +76,7 @@ LacksReferences references shape (Ambiguous event) =
     × (least_event (has_several references) (hashed_leaves shape) ≡ Some event)
 LacksReferences references shape (BadBundle at kind) = ⊥
 LacksReferences references shape (BadShape node) = ⊥
+LacksReferences references shape (Transcript error) = ⊥
 LacksReferences references shape NoMemory = ⊥
 
 -- why there are no verdicts: the references don't do; or they do, and the bytes have no value of the shape

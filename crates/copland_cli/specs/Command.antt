@@ -21,6 +21,7 @@ pub data Command : Type 0 where
   Upgrade : Command
   -- the number of its job
   Load : ℕ → Command
+  Audit : Command
 
 -- the command that the program holds
 abbrev pub command_view : CodeCommand → Command
@@ -36,3 +37,4 @@ command_view (code.Attest workers) = Attest workers
 command_view code.Appraise = Appraise
 command_view code.Upgrade = Upgrade
 command_view (code.Load number) = Load number
+command_view code.Audit = Audit

@@ -5,14 +5,14 @@ use Rattle.job_reader.specs.declared.refusal.JobError.{JobError}
 use Rattle.job_reader.specs.declared.refusal.JobError.TheVariants as errors
 use Rattle.load_maker.specs.Job.{made_job}
 use Rattle.report_text.specs.declared.refusal.Refusal.{Refusal}
-use Rattle.report_text.specs.declared.refusal.Refusal.TheVariants.{Words, ReadFault, TooLong, Job as JobRefused, NoReference, Ambiguous, BadBundle, BadShape, NoMemory}
+use Rattle.report_text.specs.declared.refusal.Refusal.TheVariants.{Words, ReadFault, TooLong, Job as JobRefused, NoReference, Ambiguous, BadBundle, BadShape, Transcript, NoMemory}
 use Rattle.copland_cli.specs.Commands.{input_of}
 use Rattle.copland_cli.specs.Port.{Port, MetFault, IsTooLong, IsUnread, IsWhole, IsWithin}
 use Rattle.copland_cli.specs.declared.input.BundleNeed.{BundleNeed}
 use Rattle.copland_cli.specs.declared.input.BundleNeed.TheVariants.{Optional, Required}
 use Rattle.copland_cli.specs.declared.input.Input.{Input}
 use Rattle.copland_cli.specs.declared.input.Input.TheVariants.{Nothing, Job}
-use Rattle.copland_cli.specs.Command.{Command, Check, Shape, Events, Code, Eval, Walk, Order, Choose, Attest, Appraise, Upgrade, Load}
+use Rattle.copland_cli.specs.Command.{Command, Check, Shape, Events, Code, Eval, Walk, Order, Choose, Attest, Appraise, Upgrade, Load, Audit}
 
 -- the job must have a bundle
 abbrev pub is_required : BundleNeed → Bool
@@ -34,6 +34,7 @@ IsRefusedOver bytes need (NoReference event) = ⊥
 IsRefusedOver bytes need (Ambiguous event) = ⊥
 IsRefusedOver bytes need (BadBundle at kind) = ⊥
 IsRefusedOver bytes need (BadShape node) = ⊥
+IsRefusedOver bytes need (Transcript error) = ⊥
 IsRefusedOver bytes need NoMemory = Unit {0}
 
 -- the refusal for that of a job; want of memory is one of its own
@@ -59,6 +60,7 @@ IsMade (Attest workers) job = ⊥
 IsMade Appraise job = ⊥
 IsMade Upgrade job = ⊥
 IsMade (Load number) job = job ≡ made_job number
+IsMade Audit job = ⊥
 
 -- the job that a command is about: the accepted job that was read, or the one that the command makes, and
 -- then the source wasn't read
@@ -80,6 +82,7 @@ IsUnreadable need source (NoReference event) = ⊥
 IsUnreadable need source (Ambiguous event) = ⊥
 IsUnreadable need source (BadBundle at kind) = ⊥
 IsUnreadable need source (BadShape node) = ⊥
+IsUnreadable need source (Transcript error) = ⊥
 IsUnreadable need source NoMemory = IsWithin source
 
 -- why a command has no job to be about

@@ -13,6 +13,7 @@ pub mod Attested
 pub mod Appraised
 pub mod Offered
 pub mod Loaded
+pub mod Audited
 pub mod Meaning
 pub mod Upgraded
 pub mod Digests

@@ -13,14 +13,14 @@ use Rattle.copland_cli.specs.declared.outcome.Outcome.TheVariants.{Refused, Repo
 
 -- what a command decides over an accepted job: its refusal, or its report; or there was no memory
 abbrev pub IsMeant : Giving → Failing → Starving → Command → JobView → Outcome → Type 0
-IsMeant Gives Fails Starves command job (Refused why) = (why ≡ NoMemory) ⊎ RefusesJob Gives Fails command job why
+IsMeant Gives Fails Starves command job (Refused why) = (why ≡ NoMemory) ⊎ RefusesJob Gives Fails Starves command job why
 IsMeant Gives Fails Starves command job (Reported report) = IsReport Gives Fails Starves command job report.text report.ending
 
 -- what a command decides over a source: why it has no job to be about; or, over the job that it is about,
 -- its refusal or its report
 abbrev pub IsRun : Giving → Failing → Starving → Command → Port → Outcome → Type 0
 IsRun Gives Fails Starves command source (Refused why) =
-    IsWithoutSubject command source why ⊎ ((job : JobView) × IsSubject command source job × RefusesJob Gives Fails command job why)
+    IsWithoutSubject command source why ⊎ ((job : JobView) × IsSubject command source job × RefusesJob Gives Fails Starves command job why)
 IsRun Gives Fails Starves command source (Reported report) =
     (job : JobView) × IsSubject command source job × IsReport Gives Fails Starves command job report.text report.ending
 

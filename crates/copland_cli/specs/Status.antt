@@ -2,12 +2,14 @@
 use Rattle.std.specs.Prelude.{ℕ}
 use Rattle.job_reader.specs.declared.refusal.JobError.{JobError}
 use Rattle.job_reader.specs.declared.refusal.JobError.TheVariants as errors
+use Rattle.transcript.specs.declared.auditing.AuditError.{AuditError}
+use Rattle.transcript.specs.declared.auditing.AuditError.TheVariants as audits
 use Rattle.report_text.specs.declared.refusal.Refusal.{Refusal}
 use Rattle.report_text.specs.declared.refusal.Refusal.TheVariants as refusals
 use Rattle.copland_cli.specs.declared.ending.Ending.{Ending}
 use Rattle.copland_cli.specs.declared.ending.Ending.TheVariants as endings
 use Rattle.copland_cli.specs.declared.status.Status.{Status}
-use Rattle.copland_cli.specs.declared.status.Status.TheVariants.{Good, SomeFailed, ClaimBroken, Denied, Rejected, BadWords, ReadFault, TooLong, NotJson, BadJob, RepeatedPlace, RepeatedArtefact, RepeatedReference, BadRoot, RepeatedNonce, BadPhrase, Misplaced, Oversize, NoReference, Ambiguous, BadBundle, WriteFault, NoMemory}
+use Rattle.copland_cli.specs.declared.status.Status.TheVariants.{Good, SomeFailed, ClaimBroken, Denied, Rejected, BadWords, ReadFault, TooLong, NotJson, BadJob, RepeatedPlace, RepeatedArtefact, RepeatedReference, BadRoot, RepeatedNonce, BadPhrase, Misplaced, Oversize, NoReference, Ambiguous, BadBundle, BadTranscript, WriteFault, NoMemory}
 
 -- the exit status of each answer
 abbrev pub code_of : Status → ℕ
@@ -32,6 +34,7 @@ code_of Oversize = 8
 code_of NoReference = 9
 code_of Ambiguous = 14
 code_of BadBundle = 10
+code_of BadTranscript = 15
 code_of WriteFault = 11
 code_of NoMemory = 12
 
@@ -49,6 +52,14 @@ job_status (errors.Misplaced session event kind) = Misplaced
 job_status (errors.Oversize session event) = Oversize
 job_status errors.NoMemory = NoMemory
 
+-- the answer at a transcript that isn't accepted
+abbrev pub audit_status : AuditError → Status
+audit_status (audits.Bad at kind) = BadTranscript
+audit_status (audits.Illegal entry) = BadTranscript
+audit_status (audits.Differs entry got) = BadTranscript
+audit_status audits.Unfinished = BadTranscript
+audit_status audits.NoMemory = NoMemory
+
 -- the answer at a refusal
 abbrev pub status_of : Refusal → Status
 status_of refusals.Words = BadWords
@@ -59,6 +70,7 @@ status_of (refusals.NoReference event) = NoReference
 status_of (refusals.Ambiguous event) = Ambiguous
 status_of (refusals.BadBundle at kind) = BadBundle
 status_of (refusals.BadShape node) = BadBundle
+status_of (refusals.Transcript error) = audit_status error
 status_of refusals.NoMemory = NoMemory
 
 -- the answer at a report that was written whole

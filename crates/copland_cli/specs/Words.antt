@@ -2,7 +2,7 @@
 use Rattle.std.specs.Prelude.{◌≡◌, ◌^◌, ◌<◌, ◌≤◌, ℕ, List, [], ◌∷◌, codes, decimal, map, String, string_bytes}
 use Rattle.order_policy.specs.Policy.{IsPolicyText}
 use Rattle.release_policy.specs.PolicyText.{HasPolicy}
-use Rattle.copland_cli.specs.Command.{Command, Check, Shape, Events, Code, Eval, Walk, Order, Choose, Attest, Appraise, Upgrade, Load}
+use Rattle.copland_cli.specs.Command.{Command, Check, Shape, Events, Code, Eval, Walk, Order, Choose, Attest, Appraise, Upgrade, Load, Audit}
 
 -- words as texts
 abbrev pub texts : {A : Type 0} → List (String A) → List (List ℕ)
@@ -24,6 +24,7 @@ Spells words (Attest workers) =
 Spells words Appraise = words ≡ codes "appraise" ∷ []
 Spells words Upgrade = words ≡ codes "upgrade" ∷ []
 Spells words (Load number) = (words ≡ codes "load" ∷ decimal number ∷ []) × (number < 2 ^ 32)
+Spells words Audit = words ≡ codes "audit" ∷ []
 
 -- the words are those of no command
 abbrev pub IsNoCommand : List (List ℕ) → Type 0

@@ -9,7 +9,7 @@ ghost use Rattle.copland_cli.specs.Commands.{IsPlain};
 ghost use Rattle.copland_cli.specs.Digests.{DigestGives, DigestFails, DigestStarves, IsDoneWhereThere};
 ghost use Rattle.copland_cli.specs.Input.{is_required};
 ghost use Rattle.copland_cli.specs.Loaded.{HasAcceptedAll};
-ghost use Rattle.copland_cli.specs.Meaning.{IsDecisive, IsReport, RefusesJob};
+ghost use Rattle.copland_cli.specs.Meaning.{IsDecisive, IsReport, IsSure, RefusesJob};
 ghost use Rattle.copland_cli.specs.declared.ending.Ending.{Ending};
 ghost use Rattle.copland_cli.specs.declared.input.BundleNeed.{BundleNeed};
 ghost use Rattle.copland_cli.specs.Command.{Command, Attest, Eval, Load, Upgrade, Walk};
@@ -24,10 +24,13 @@ use release_policy::reading_law;
 use session_walk::digests_make_one_walk;
 
 /// A command has at most one refusal of an accepted job after the job's own, and never
-/// both that refusal and a report.
+/// both that refusal and a report; `audit`, if for the question of each result in the transcript the bench
+/// gives one result at most.
 pub fn commands_are_decisive<B: Bench>()
     ensures { (bench : B) (command : Command) (job : JobView) →
-        IsDecisive (RefusesJob (B.gives bench) (B.fails bench) command job)
+        IsDecisive
+        (IsSure (B.gives bench) (B.fails bench) command job)
+        (RefusesJob (B.gives bench) (B.fails bench) (B.starves bench) command job)
         (IsReport (B.gives bench) (B.fails bench) (B.starves bench) command job) }
 {}
 

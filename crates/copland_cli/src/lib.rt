@@ -11,6 +11,9 @@ mod appraise_tests;
 mod attest;
 #[cfg(test)]
 mod attest_tests;
+mod audit;
+#[cfg(test)]
+mod audit_tests;
 mod choose;
 #[cfg(test)]
 mod choose_tests;

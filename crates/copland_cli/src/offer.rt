@@ -1,5 +1,6 @@
 ghost use Rattle.std.specs.Prelude.{◌≡◌, ◌<◌, ◌≤◌, ◌^◌, IfOk, length};
 ghost use Rattle.evidence_types.specs.Shape.{form};
+ghost use Rattle.place_check.specs.Session.{IsCheckedAgainst, session_of};
 ghost use Rattle.job_reader.specs.Accepted.{HasCheckedSessions, job_view};
 ghost use Rattle.appraiser.specs.Appraised.{CanAppraise, HasReferences};
 ghost use Rattle.appraiser.specs.Fit.{CanMark, nodes};
@@ -26,6 +27,7 @@ pub fn offered_in(job: &Job) -> Offered<'_>
     requires checked { HasCheckedSessions job.now }
     ensures offered { IsOffered (job_view job.now) (offer_of result) }
     ensures runnable { IsRunnableOffer job.now.places (offer_of result) }
+    ensures against { IsCheckedAgainst (session_of result.checked.now) job.now.places }
 {
     let Some(bundle) = &job.bundle else {
         unreachable!()

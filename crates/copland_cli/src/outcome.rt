@@ -14,6 +14,7 @@ ghost use Rattle.copland_cli.specs.Reported.{SaysOfEach, aspect_text};
 ghost use Rattle.copland_cli.specs.Words.{texts};
 
 use crate::appraise::appraise_bundle;
+use crate::audit::audit_bundle;
 use crate::choose::{choice_text, choose_among};
 use crate::ending::Ending;
 use crate::evaluate::values_of;
@@ -95,7 +96,9 @@ fn run_alone<B: Bench>(alloc: Global, command: Command<'_>, bench: &B) -> Outcom
         Command::Eval | Command::Walk(_) | Command::Order(_) | Command::Choose(_) => {
             unreachable!()
         }
-        Command::Attest(_) | Command::Appraise | Command::Upgrade => unreachable!(),
+        Command::Attest(_) | Command::Appraise | Command::Upgrade | Command::Audit => {
+            unreachable!()
+        }
     }
 }
 
@@ -113,6 +116,10 @@ fn run_over<B: Bench>(alloc: Global, command: Command<'_>, job: &Job, bench: &B)
             Err(why) => Outcome::Refused(why),
         },
         Command::Upgrade => match upgrade_bundle(alloc, job) {
+            Ok(report) => Outcome::Reported(report),
+            Err(why) => Outcome::Refused(why),
+        },
+        Command::Audit => match audit_bundle(alloc, job, bench) {
             Ok(report) => Outcome::Reported(report),
             Err(why) => Outcome::Refused(why),
         },
@@ -162,7 +169,7 @@ fn report_on<B: Bench>(
         Command::Walk(number) => walk_each(alloc, job, bench, number),
         Command::Order(text) => judge_claims(alloc, job, text),
         Command::Choose(text) => choose_session(alloc, job, text),
-        Command::Appraise | Command::Upgrade => unreachable!(),
+        Command::Appraise | Command::Upgrade | Command::Audit => unreachable!(),
         Command::Attest(_) | Command::Load(_) => unreachable!(),
     }
 }

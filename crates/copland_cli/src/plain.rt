@@ -54,8 +54,9 @@ pub fn plain_top<S: Source, K: Sink, B: Bench>(
     // Bad words are told apart from all else, whatever the ports do.
     ensures bad_words { (result ≡ Status.BadWords) ↔ IsBadWords IsPlain (texts words.now) }
 
-    // Where the source met no fault and memory sufficed, each answer comes where its input calls for it.
-    ensures exact { IsExact IsPlain (B.gives bench.now) (B.fails bench.now) (texts words.now)
+    // Where the source met no fault and memory sufficed, each answer comes where its input calls for it; that of
+    // `audit`, if for the question of each result in the transcript the bench gives one result at most.
+    ensures exact { IsExact IsPlain (B.gives bench.now) (B.fails bench.now) (B.starves bench.now) (texts words.now)
         (port S.left S.faults source.old source.new)
         (port K.taken K.faults sink.old sink.new)
         result }

@@ -1,8 +1,9 @@
 ghost use Rattle.std.specs.Prelude.{◌≡◌};
-ghost use Rattle.copland_cli.specs.Status.{code_of, job_status, status_of};
+ghost use Rattle.copland_cli.specs.Status.{audit_status, code_of, job_status, status_of};
 
 use job_reader::JobError;
 use report_text::Refusal;
+use transcript::AuditError;
 
 /// How a run ended. Each has its own exit status; several refusals share one.
 #[derive(Clone, Copy, Debug, PartialEq, Eq)]
@@ -45,6 +46,8 @@ pub enum Status {
     Ambiguous,
     /// The bytes are not a bundle, or its value does not have the phrase's shape.
     BadBundle,
+    /// The bytes are not the transcript of a session that is done or failed, or the bench gives another result.
+    BadTranscript,
     /// The sink met a fault while the report was written.
     WriteFault,
     NoMemory,
@@ -73,6 +76,7 @@ impl Status {
             Status::NoReference => 9,
             Status::Ambiguous => 14,
             Status::BadBundle => 10,
+            Status::BadTranscript => 15,
             Status::WriteFault => 11,
             Status::NoMemory => 12,
         }
@@ -91,7 +95,18 @@ pub fn status_of(refusal: &Refusal) -> Status
         Refusal::NoReference { .. } => Status::NoReference,
         Refusal::Ambiguous { .. } => Status::Ambiguous,
         Refusal::BadBundle { .. } | Refusal::BadShape { .. } => Status::BadBundle,
+        Refusal::Transcript(error) => audit_status(error),
         Refusal::NoMemory => Status::NoMemory,
+    }
+}
+
+fn audit_status(error: &AuditError) -> Status
+    ensures { result ≡ audit_status error.now }
+{
+    match error {
+        AuditError::Bad { .. } | AuditError::Illegal { .. } => Status::BadTranscript,
+        AuditError::Differs { .. } | AuditError::Unfinished => Status::BadTranscript,
+        AuditError::NoMemory => Status::NoMemory,
     }
 }
 

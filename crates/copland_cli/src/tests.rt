@@ -44,6 +44,7 @@ fn words_are_told_apart(rt: HostRuntime) -> Result<(), Fail> {
         "load 00",
         "load 4294967296",
         "load 7 7",
+        "audit 0",
         "--help",
     ];
     expect_words(&rt, alloc, &wrong, (Status::BadWords, "error: words\n"))?;
@@ -398,6 +399,7 @@ fn each_status_has_its_code(rt: HostRuntime) {
         (Status::NoReference, 9),
         (Status::Ambiguous, 14),
         (Status::BadBundle, 10),
+        (Status::BadTranscript, 15),
         (Status::WriteFault, 11),
         (Status::NoMemory, 12),
     ];

@@ -29,6 +29,8 @@ pub enum Command<'w> {
     Upgrade,
     /// The made job of this number.
     Load(u32),
+    /// Audits the transcript that the bundle of a job is.
+    Audit,
 }
 
 impl Command<'_> {
@@ -45,7 +47,9 @@ impl Command<'_> {
             Command::Walk(_) | Command::Order(_) | Command::Choose(_) | Command::Attest(_) => {
                 Input::Job(BundleNeed::Optional)
             }
-            Command::Appraise | Command::Upgrade => Input::Job(BundleNeed::Required),
+            Command::Appraise | Command::Upgrade | Command::Audit => {
+                Input::Job(BundleNeed::Required)
+            }
             Command::Load(_) => Input::Nothing,
         }
     }
@@ -88,7 +92,7 @@ fn workers_by(command: Command<'_>) -> Option<u32>
         Command::Attest(workers) => Some(workers),
         Command::Check | Command::Shape | Command::Events | Command::Code | Command::Eval => None,
         Command::Walk(_) | Command::Order(_) | Command::Choose(_) => None,
-        Command::Appraise | Command::Upgrade | Command::Load(_) => None,
+        Command::Appraise | Command::Upgrade | Command::Load(_) | Command::Audit => None,
     }
 }
 
@@ -115,6 +119,9 @@ fn single(word: &str) -> Option<Command<'static>>
     }
     if word == "upgrade" {
         return Some(Command::Upgrade);
+    }
+    if word == "audit" {
+        return Some(Command::Audit);
     }
     None
 }

@@ -7,8 +7,12 @@ use Rattle.evidence_codec.specs.Words.{bundle_word}
 use Rattle.job_values.specs.Words.{kind_word, path_text}
 use Rattle.job_reader.specs.declared.refusal.JobError.{JobError}
 use Rattle.job_reader.specs.declared.refusal.JobError.TheVariants as errors
+use Rattle.transcript.specs.declared.auditing.AuditError.{AuditError}
+use Rattle.transcript.specs.declared.auditing.AuditError.TheVariants as audits
+use Rattle.transcript.specs.declared.fault.TranscriptKind.{TranscriptKind}
+use Rattle.transcript.specs.declared.fault.TranscriptKind.TheVariants.{Short, Tag, Length, Name, Rest}
 use Rattle.report_text.specs.declared.refusal.Refusal.{Refusal}
-use Rattle.report_text.specs.declared.refusal.Refusal.TheVariants.{Words, ReadFault, TooLong, Job, NoReference, Ambiguous, BadBundle, BadShape, NoMemory}
+use Rattle.report_text.specs.declared.refusal.Refusal.TheVariants.{Words, ReadFault, TooLong, Job, NoReference, Ambiguous, BadBundle, BadShape, Transcript, NoMemory}
 
 -- the end of a line: one number, two numbers, or two numbers and a word
 abbrev pub one_number : ℕ → List ℕ
@@ -34,6 +38,22 @@ job_line (errors.Misplaced session event kind) = codes "error: misplaced " ++ nu
 job_line (errors.Oversize session event) = codes "error: oversize " ++ two_numbers session event
 job_line errors.NoMemory = codes "error: no memory\n"
 
+-- a fault of bytes that are no transcript, by its name
+abbrev pub transcript_word : TranscriptKind → List ℕ
+transcript_word Short = codes "short"
+transcript_word Tag = codes "tag"
+transcript_word Length = codes "length"
+transcript_word Name = codes "name"
+transcript_word Rest = codes "rest"
+
+-- the line of a transcript that isn't accepted
+abbrev pub audit_line : AuditError → List ℕ
+audit_line (audits.Bad at kind) = codes "error: transcript at " ++ (decimal at ++ (32 ∷ (transcript_word kind ++ 10 ∷ [])))
+audit_line (audits.Illegal entry) = codes "error: transcript entry " ++ (decimal entry ++ codes " illegal\n")
+audit_line (audits.Differs entry got) = codes "error: transcript entry " ++ (decimal entry ++ codes " differs\n")
+audit_line audits.Unfinished = codes "error: transcript unfinished\n"
+audit_line audits.NoMemory = codes "error: no memory\n"
+
 -- the line of a refusal
 abbrev pub line_of : Refusal → List ℕ
 line_of Words = codes "error: words\n"
@@ -44,4 +64,5 @@ line_of (NoReference event) = codes "error: no reference " ++ one_number event
 line_of (Ambiguous event) = codes "error: ambiguous reference " ++ one_number event
 line_of (BadBundle at kind) = codes "error: bad bundle at " ++ (decimal at ++ (32 ∷ (bundle_word kind ++ 10 ∷ [])))
 line_of (BadShape node) = codes "error: bad bundle shape " ++ one_number node
+line_of (Transcript error) = audit_line error
 line_of NoMemory = codes "error: no memory\n"

@@ -14,7 +14,7 @@ mod verdicts;
 
 pub use events::events_text;
 pub use inline_line::Line;
-pub use record::{push_value, records_text, values_text};
+pub use record::{push_value, record_text, records_text, values_text};
 pub use refusal::{Refusal, refusal_line};
 pub use session::{push_check, push_code, push_events, push_shape};
 pub use verdicts::{upgrade_text, verdicts_text};

@@ -41,6 +41,16 @@ pub fn values_text(alloc: Global, records: &[Record]) -> Result<Bytes, NoMemory>
     Ok(Bytes::of(text))
 }
 
+/// The report of the record of the session of this number. An error is want of memory. Takes time linear in
+/// the text.
+pub fn record_text(alloc: Global, number: u32, found: &Record) -> Result<Bytes, NoMemory>
+    ensures { IfOk result (λ text. text ≡ record_text number (recorded found.now)) }
+{
+    let mut text = Vec::new(alloc);
+    push_record(&mut text, number as usize, found)?;
+    Ok(Bytes::of(text))
+}
+
 fn push_record(text: &mut Vec<u8>, number: usize, found: &Record) -> Result<(), NoMemory>
     ensures { OnOk result (text.new.items ≡ text.old.items ++ record_text number (recorded found.now)) }
 {

@@ -5,7 +5,8 @@ ghost use Rattle.evidence_codec.specs.Words.{bundle_word};
 ghost use Rattle.job_values.specs.Words.{field_text, field_word, index_text, item_text, kind_word, section_text, section_word};
 ghost use Rattle.job_reader.specs.declared.refusal.JobError.TheVariants as errors;
 ghost use Rattle.report_text.specs.declared.refusal.Refusal.TheVariants as refusals;
-ghost use Rattle.report_text.specs.Refusal.{job_line, line_of, numbers_and_word, one_number, two_numbers};
+ghost use Rattle.transcript.specs.declared.auditing.AuditError.TheVariants as audits;
+ghost use Rattle.report_text.specs.Refusal.{audit_line, job_line, line_of, numbers_and_word, one_number, transcript_word, two_numbers};
 
 use crate::inline_line::Line;
 use evidence_codec::BadKind;
@@ -13,9 +14,10 @@ use job_reader::JobError;
 use job_values::{Field, FieldAt, FieldKind, Section};
 use phrase_reader::Kind;
 use place_check::PlaceKind;
+use transcript::{AuditError, TranscriptKind};
 
 /// Why nothing was reported.
-#[derive(Clone, Copy, Debug, PartialEq, Eq)]
+#[derive(Debug, Drop)]
 pub enum Refusal {
     /// The words are not a command.
     Words,
@@ -33,6 +35,8 @@ pub enum Refusal {
     BadBundle { at: u32, kind: BadKind },
     /// The bundle's value doesn't have the phrase's shape: the first node that differs.
     BadShape { node: u32 },
+    /// A transcript isn't accepted.
+    Transcript(AuditError),
     NoMemory,
 }
 
@@ -49,6 +53,7 @@ pub fn refusal_line(refusal: &Refusal) -> Line
         Refusal::Ambiguous { event } => number_line(b"error: ambiguous reference ", *event),
         Refusal::BadBundle { at, kind } => bundle_line(*at, *kind),
         Refusal::BadShape { node } => number_line(b"error: bad bundle shape ", *node),
+        Refusal::Transcript(error) => audit_line(error),
         Refusal::NoMemory => Line::of(b"error: no memory\n"),
     }
 }
@@ -117,6 +122,54 @@ fn bundle_bytes(kind: BadKind) -> &'static [u8]
     ensures few { length result.now ≤ 16 }
 {
     kind.word().as_bytes()
+}
+
+fn audit_line(error: &AuditError) -> Line
+    ensures { result ≡ audit_line error.now }
+{
+    match error {
+        AuditError::Bad { at, kind } => transcript_line(*at, *kind),
+        AuditError::Illegal { entry } => entry_line(*entry, b" illegal\n"),
+        AuditError::Differs { entry, .. } => entry_line(*entry, b" differs\n"),
+        AuditError::Unfinished => Line::of(b"error: transcript unfinished\n"),
+        AuditError::NoMemory => Line::of(b"error: no memory\n"),
+    }
+}
+
+/// The line for bytes that are no transcript.
+fn transcript_line(at: u32, kind: TranscriptKind) -> Line
+    ensures { result ≡ audit_line (audits.Bad at kind) }
+{
+    let mut line = Line::of(b"error: transcript at ");
+    line.push_number(at);
+    line.push(b" ");
+    line.push(transcript_bytes(kind));
+    line.push(b"\n");
+    line
+}
+
+fn transcript_bytes(kind: TranscriptKind) -> &'static [u8]
+    ensures word { result.now ≡ transcript_word kind }
+    ensures few { length result.now ≤ 16 }
+{
+    match kind {
+        TranscriptKind::Short => b"short",
+        TranscriptKind::Tag => b"tag",
+        TranscriptKind::Length => b"length",
+        TranscriptKind::Name => b"name",
+        TranscriptKind::Rest => b"rest",
+    }
+}
+
+/// A line on an entry of a transcript.
+fn entry_line(entry: u32, what: &[u8]) -> Line
+    requires { length what.now ≤ 16 }
+    ensures { result ≡ codes "error: transcript entry " ++ (decimal entry ++ what.now) }
+{
+    let mut line = Line::of(b"error: transcript entry ");
+    line.push_number(entry);
+    line.push(what);
+    line
 }
 
 /// A line with two numbers after a text.

@@ -4,10 +4,12 @@ ghost use Rattle.phrase_tree.specs.Numbering.{IsSized};
 
 use super::*;
 use appraiser::{Verdict, VerdictOf, Verdicts};
+use bench_trait::BenchFault;
 use evidence_codec::BadKind;
 use phrase_tree::{Arg, Args, Asp, Name, NoMemory, Phrase, Place, Split};
 use std::alloc::Global;
 use std::test::Fail;
+use transcript::{AuditError, TranscriptKind};
 
 fn asp(name: Name) -> Asp {
     Asp {
@@ -125,6 +127,55 @@ fn refusals_of_appraisals_have_their_lines(rt: HostRuntime) {
     ] {
         assert_eq!(rt; refusal_line(&refusal).bytes(), line.as_bytes());
     }
+}
+
+// The lines are those of another program.
+#[test]
+fn refusals_of_audits_have_their_lines(rt: HostRuntime) {
+    for (error, line) in [
+        (
+            bad_transcript(9, TranscriptKind::Short),
+            "error: transcript at 9 short\n",
+        ),
+        (
+            bad_transcript(4, TranscriptKind::Tag),
+            "error: transcript at 4 tag\n",
+        ),
+        (
+            bad_transcript(14, TranscriptKind::Length),
+            "error: transcript at 14 length\n",
+        ),
+        (
+            bad_transcript(15, TranscriptKind::Name),
+            "error: transcript at 15 name\n",
+        ),
+        (
+            bad_transcript(4294967295, TranscriptKind::Rest),
+            "error: transcript at 4294967295 rest\n",
+        ),
+        (
+            AuditError::Illegal { entry: 2 },
+            "error: transcript entry 2 illegal\n",
+        ),
+        (
+            AuditError::Differs {
+                entry: 1,
+                got: Err(BenchFault::NoArtefact),
+            },
+            "error: transcript entry 1 differs\n",
+        ),
+        (AuditError::Unfinished, "error: transcript unfinished\n"),
+        (AuditError::NoMemory, "error: no memory\n"),
+    ] {
+        assert_eq!(rt;
+            refusal_line(&Refusal::Transcript(error)).bytes(),
+            line.as_bytes()
+        );
+    }
+}
+
+fn bad_transcript(at: u32, kind: TranscriptKind) -> AuditError {
+    AuditError::Bad { at, kind }
 }
 
 fn bad_bundle(at: u32, kind: BadKind) -> Refusal {
