@@ -7,11 +7,11 @@ use Rattle.evidence_types.specs.Evidence.{Evidence}
 use Rattle.evidence_types.specs.Bytes.{bundle as bundle_of}
 use Rattle.std.specs.Option.{option_map}
 use Rattle.wire_frames.specs.declared.frame.Frame.{Frame}
-use Rattle.wire_frames.specs.Frames.{be32, frame_bytes}
+use Rattle.wire_frames.specs.Frames.{be32, frame_bytes, IsFrame}
 use Rattle.wire_manager.specs.declared.link.Kept.{Kept}
 use Rattle.wire_manager.specs.Messages.{Message, message_with}
 use Rattle.wire_manager.specs.Link.{message_of, messages_of, frame_of, at_number, AreSent}
-use Rattle.wire_manager.specs.Framed.{IsFramed, AreFramed, bytes_of, IsReady}
+use Rattle.wire_manager.specs.Framed.{frame_with, IsFramed, AreFramed, bytes_of, IsReady}
 use Rattle.wire_manager.proofs.ListingLemmas.{at_index}
 
 -- behind a list of a length
@@ -30,10 +30,11 @@ drop_short (suc n) [] e = refl
 drop_short (suc n) (x ∷ xs) e = drop_short n xs (omega (arith, e))
 
 -- a message with the bytes of its frame is ready
-pub ready : (frame : Frame) (kept : Kept) → length frame.nonce ≡ 16 → kept.reply ≡ frame.reply → kept.name ≡ frame.name → kept.frame ≡ frame_bytes frame → IsFramed frame.nonce kept × (drop 25 kept.frame ≡ frame.bundle)
-ready frame kept sixteen reply name bytes =
-    let bundle : drop 25 kept.frame ≡ frame.bundle = ap (λ xs. drop 25 xs) bytes ∙ bundle_behind frame sixteen in (
-      record { bytes = bytes ∙ (λ i. frame_bytes (record { reply = (sym reply) i; nonce = frame.nonce; name = (sym name) i; bundle = (sym bundle) i })) },
+pub ready : (frame : Frame) (kept : Kept) → IsFrame frame → kept.reply ≡ frame.reply → kept.name ≡ frame.name → kept.frame ≡ frame_bytes frame → IsFramed frame.nonce kept × (drop 25 kept.frame ≡ frame.bundle)
+ready frame kept is_frame reply name bytes =
+    let bundle : drop 25 kept.frame ≡ frame.bundle = ap (λ xs. drop 25 xs) bytes ∙ bundle_behind frame is_frame.nonce in
+    let same : frame ≡ frame_with frame.nonce (message_of kept) = λ i. record { reply = (sym reply) i; nonce = frame.nonce; name = (sym name) i; bundle = (sym bundle) i } in (
+      record { bytes = bytes ∙ ap (λ f. frame_bytes f) same; is_frame = subst (λ f. IsFrame f) same is_frame },
       bundle,
     )
 
@@ -72,6 +73,12 @@ there_is : {A : Type 0} (xs : List A) (n : ℕ) → n < length xs → (x : A) ×
 there_is [] n e = absurd (omega (arith, e))
 there_is (x ∷ xs) zero e = (x, refl)
 there_is (x ∷ xs) (suc n) e = there_is xs n (omega (arith, e))
+
+-- the frame of each message is a frame
+pub frames_are : (nonce : List ℕ) (kept : List Kept) → AreFramed nonce kept → (index : ℕ) (message : Message) → slice_get (messages_of kept) index ≡ Some message → IsFrame (frame_with nonce message)
+frames_are nonce [] f index message e = absurd (none-some message e)
+frames_are nonce (one ∷ kept) f zero message e = subst (λ m. IsFrame (frame_with nonce m)) (same_Some (message_of one) message e) f.0.is_frame
+frames_are nonce (one ∷ kept) f (suc index) message e = frames_are nonce kept f.1 index message e
 
 -- nothing was sent at an index just where fewer were sent
 pub none_sent : {A B C : Type 0} (f : A → C) (h : B → C) (kept : List B) (sent : List ℕ) (index : ℕ) (found : Option A) → option_map f found ≡ option_map h (at_number kept (slice_get sent index)) → AreSent (length kept) sent → (found ≡ None) ↔ (length sent ≤ index)

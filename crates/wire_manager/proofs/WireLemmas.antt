@@ -88,7 +88,7 @@ keeps_again old new index there messages sent = record {
 
 framed_set : (nonce : List ℕ) (kept : List Kept) (index : ℕ) (other : Kept) → AreFramed nonce kept → AreFramed nonce (slice_set kept index (record (slice_index_or kept index other) { arrived = true }))
 framed_set nonce [] index other f = f
-framed_set nonce (first ∷ kept) zero other f = (record { bytes = f.0.bytes }, f.1)
+framed_set nonce (first ∷ kept) zero other f = (record { bytes = f.0.bytes; is_frame = f.0.is_frame }, f.1)
 framed_set nonce (first ∷ kept) (suc index) other f = (f.0, framed_set nonce kept index other f.1)
 
 pub keeps_marked : (old new : Link) (reply : Bool) (name index : ℕ) (other : Kept) → new.messages.items ≡ slice_set old.messages.items index (record (slice_index_or old.messages.items index other) { arrived = true }) → messages_of new.messages.items ≡ with_arrived reply name (messages_of old.messages.items) → new.sent.items ≡ old.sent.items → Keeps old new

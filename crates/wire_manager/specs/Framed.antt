@@ -1,16 +1,22 @@
 -- The bytes of the messages of the code (this project's own).
-use Rattle.std.specs.Prelude.{◌≡◌, ℕ, List, [], ◌∷◌, drop, length, Option, None, Some}
+use Rattle.std.specs.Prelude.{◌≡◌, ℕ, List, [], ◌∷◌, length, Option, None, Some}
 use Rattle.session_runs.specs.Touches.{Touch}
-use Rattle.wire_frames.specs.Frames.{frame_bytes}
+use Rattle.wire_frames.specs.declared.frame.Frame.{Frame}
+use Rattle.wire_frames.specs.Frames.{frame_bytes, IsFrame}
 use Rattle.wire_manager.specs.declared.link.Kept.{Kept}
 use Rattle.wire_manager.specs.declared.link.Link.{Link}
 use Rattle.wire_manager.specs.Messages.{Message}
 use Rattle.wire_manager.specs.Linked.{AreLinked}
 use Rattle.wire_manager.specs.Link.{message_of, messages_of, IsUnchanged, HasMore, AreSent}
 
--- its bytes are those of its frame, with the session's nonce
+-- the frame of a message, with the session's nonce
+abbrev pub frame_with : List ℕ → Message → Frame
+frame_with nonce message = record { reply = message.reply; nonce = nonce; name = message.name; bundle = message.bundle }
+
+-- it is a frame, and the bytes that are kept are its bytes
 pub record IsFramed (nonce : List ℕ) (kept : Kept) : Type 0 where
-  pub bytes : kept.frame ≡ frame_bytes (record { reply = kept.reply; nonce = nonce; name = kept.name; bundle = drop 25 kept.frame })
+  pub bytes : kept.frame ≡ frame_bytes (frame_with nonce (message_of kept))
+  pub is_frame : IsFrame (frame_with nonce (message_of kept))
 
 abbrev pub AreFramed : List ℕ → List Kept → Type 0
 AreFramed nonce [] = Unit {0}
@@ -18,7 +24,7 @@ AreFramed nonce (kept ∷ rest) = IsFramed nonce kept × AreFramed nonce rest
 
 -- the bytes of a message's frame
 abbrev pub bytes_of : List ℕ → Message → List ℕ
-bytes_of nonce message = frame_bytes (record { reply = message.reply; nonce = nonce; name = message.name; bundle = message.bundle })
+bytes_of nonce message = frame_bytes (frame_with nonce message)
 
 -- the message that is to be sent, where there is one: it is this one, with its frame
 abbrev pub IsReady : List ℕ → Option Message → Option Kept → Type 0

@@ -11,11 +11,12 @@ ghost use Rattle.session_book.specs.declared.entry.Entry.TheVariants as entry;
 ghost use Rattle.session_book.specs.Entries.{move_of};
 ghost use Rattle.session_core.specs.Reading.{word_of, HasStopped, question_of, result_entry, TellsOf, IsOutcome};
 ghost use Rattle.session_core.specs.Session.{with_entry, session_in, keys_in, places_in, history, StandsAt, IsAwaited};
+ghost use Rattle.wire_frames.specs.Frames.{IsFrame};
 ghost use Rattle.wire_manager.specs.Requests.{touches_in};
-ghost use Rattle.wire_manager.specs.Messages.{index_in, is_there};
+ghost use Rattle.wire_manager.specs.Messages.{Message, index_in, has_arrived, is_there};
 ghost use Rattle.wire_manager.specs.Linked.{delivery_count, AreLinked, wire_moves, IsWirePossible, CanMakeNow, IsUnderWay};
 ghost use Rattle.wire_manager.specs.Link.{AreSent, at_number};
-ghost use Rattle.wire_manager.specs.Framed.{bytes_of};
+ghost use Rattle.wire_manager.specs.Framed.{frame_with, bytes_of};
 ghost use Rattle.wire_manager.specs.Wire.{Sends, sent_again, Arrives};
 
 use crate::answers::{Arrived, ResendError, WireError};
@@ -76,7 +77,7 @@ impl<'a, B: Bench> WireSession<'a, B> {
 
     /// A law: whatever was lost, repeated or put in another order, the history is legal; no block of a request
     /// is started twice, and a request is delivered, and a reply taken, only after it was sent and has arrived;
-    /// and each message was sent.
+    /// and each message was sent, as a frame.
     pub fn linked(&self)
         ensures legal { (standing : Standing) × IsLegal
             (λ ask answer. B.gives self.now.seen.opening.bench.now self.now.seen.opening.artefacts.now ask answer)
@@ -89,6 +90,8 @@ impl<'a, B: Bench> WireSession<'a, B> {
         ensures once { (request : ℕ) → delivery_count request (touches_in (session_in self.now.seen.opening) (keys_in self.now.seen.opening) (history self.now.seen)) ≤ 1 }
         ensures linked { AreLinked (touches_in (session_in self.now.seen.opening) (keys_in self.now.seen.opening) (history self.now.seen)) self.now.messages }
         ensures sent { AreSent (length self.now.messages) self.now.sent }
+        ensures frames { (index : ℕ) (message : Message) → slice_get self.now.messages index ≡ Some message →
+            IsFrame (frame_with self.now.seen.opening.checked.now.nonce message) }
     {
         request_law();
         self.session.legal();
@@ -223,6 +226,13 @@ impl<'a, B: Bench> WireSession<'a, B> {
         ensures none { (result ≡ None) ↔ (length self.now.sent ≤ index) }
     {
         nth_sent(&self.link, index)
+    }
+
+    /// Whether the message of a kind and a number was sent and has arrived.
+    pub fn has_arrived(&self, reply: bool, name: u32) -> bool
+        ensures { result ≡ has_arrived reply name self.now.messages }
+    {
+        self.link.has_arrived(reply, name)
     }
 
     /// Sends a message again. Copies no bytes. After an error nothing has changed.
