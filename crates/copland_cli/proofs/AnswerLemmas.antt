@@ -23,7 +23,7 @@ use Rattle.copland_cli.specs.declared.ending.Ending.TheVariants as endings
 use Rattle.copland_cli.specs.declared.input.BundleNeed.{BundleNeed}
 use Rattle.copland_cli.specs.declared.input.Input.{Input}
 use Rattle.copland_cli.specs.declared.input.Input.TheVariants.{Nothing, Job}
-use Rattle.copland_cli.specs.Command.{Command, Check, Shape, Events, Code, Eval, Walk, Order, Choose, Attest, Appraise, Upgrade, Load, Audit}
+use Rattle.copland_cli.specs.Command.{Command, Check, Shape, Events, Code, Eval, Walk, Order, Choose, Attest, Appraise, Upgrade, Load, Audit, Record}
 use Rattle.copland_cli.specs.declared.outcome.Report.{Report}
 use Rattle.copland_cli.specs.declared.outcome.Outcome.{Outcome}
 use Rattle.copland_cli.specs.declared.outcome.Outcome.TheVariants.{Refused, Reported}
@@ -129,6 +129,7 @@ never_meant Gives Fails Starves (Attest workers) job h = h
 never_meant Gives Fails Starves Appraise job h = no_transcript_of_verdicts job audits.NoMemory h
 never_meant Gives Fails Starves Upgrade job h = h.2
 never_meant Gives Fails Starves (Load number) job h = h
+never_meant Gives Fails Starves (Record number) job h = h
 never_meant Gives Fails Starves Audit job h = h.2.0 refl
 
 never_starved_run : (Gives : Giving) (Fails : Failing) (Starves : Starving) (command : Command) (source : Port) → ¬ IsRun Gives Fails Starves command source (Refused (refusals.Transcript audits.NoMemory))
@@ -203,6 +204,7 @@ one_made Appraise one other h k = absurd h
 one_made Upgrade one other h k = absurd h
 one_made (Load number) one other h k = h ∙ sym k
 one_made Audit one other h k = absurd h
+one_made (Record number) one other h k = absurd h
 
 -- the subject is the job that is given
 same_subject : (input : Input) (command : Command) (source : Port) (finding : Finding) (job : JobView) → IsGiven input command source finding → IsSubjectBy input command source job → accepted job ≡ finding

@@ -10,10 +10,10 @@ use Rattle.session_model.specs.Record.{Record as Meant, is_failed}
 use Rattle.session_model.specs.Recorded.{recorded}
 use Rattle.session_model.specs.Session.{Session, session_questions}
 use Rattle.session_model.specs.declared.record.Record.{Record}
-use Rattle.session_runs.specs.Standing.{Entry, opened, played, answered, failed, starved, is_open, Standing, opening}
+use Rattle.session_runs.specs.Standing.{Entry, opened, played, answered, failed, starved, Standing, opening}
 use Rattle.session_runs.specs.History.{AreResults, IsLegal, IsResult, record_of, standing_after}
 use Rattle.job_reader.specs.Finding.{JobView}
-use Rattle.transcript.specs.Audit.{AllowOnly, AllowsOnly, Extent, IsAudit, IsCause, IsFinishedText, IsGiven, IsUnlessMemory, IsUnlike, IsVerdict, Reaches, Settles, ends, extent, first_fault, result_in, stops_at}
+use Rattle.transcript.specs.Audit.{AllowOnly, Extent, IsAudit, IsCause, IsFinishedText, IsGiven, IsUnlessMemory, IsUnlike, Reaches, Settles, ends, extent, first_fault, result_in, stops_at}
 use Rattle.transcript.specs.Bytes.{IsTranscriptOf}
 use Rattle.transcript.specs.declared.auditing.AuditError.{AuditError}
 use Rattle.transcript.specs.declared.auditing.AuditError.TheVariants as audits
@@ -23,7 +23,7 @@ use Rattle.transcript.proofs.EntryLemmas.{transcript_again}
 use Rattle.transcript.proofs.LawLemmas.{one_history}
 use Rattle.report_text.specs.Records.{record_text}
 use Rattle.report_text.specs.declared.refusal.Refusal.{Refusal}
-use Rattle.report_text.specs.declared.refusal.Refusal.TheVariants.{Words, ReadFault, TooLong, Job, NoReference, Ambiguous, BadBundle, BadShape, Transcript, NoMemory}
+use Rattle.report_text.specs.declared.refusal.Refusal.TheVariants.{Transcript, NoMemory}
 use Rattle.copland_cli.specs.Appraised.{IsOffered, Offer}
 use Rattle.copland_cli.specs.Audited.{GivesOneEach, HasNoAudit, IsAuditOf, IsAuditRefusal, IsOfAudit, IsSureTranscript, IsUnaccepted, SaysRecord}
 use Rattle.copland_cli.specs.Meaning.{IsOfMeaning}

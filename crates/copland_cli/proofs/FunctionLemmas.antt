@@ -14,7 +14,11 @@ use Rattle.order_policy.specs.declared.judgement.Judgement.{Judgement}
 use Rattle.order_policy.specs.Judged.{IsJudged}
 use Rattle.order_policy.specs.Policy.{SpellsPolicy}
 use Rattle.report_text.specs.Sessions.{numbered}
-use Rattle.std.specs.Prelude.{Option}
+use Rattle.std.specs.Prelude.{Option, map}
+use Rattle.transcript.specs.Recording.{AreOfRecordedWalk}
+use Rattle.transcript.specs.declared.recording.RecordedSession.{RecordedSession}
+use Rattle.report_text.specs.Transcripts.{transcript_in, transcripts_text}
+use Rattle.copland_cli.specs.Recordings.{one_failed}
 use Rattle.release_policy.specs.declared.denied.Denial.{Denial}
 use Rattle.release_policy.specs.declared.rule.Rule.{Rule}
 use Rattle.release_policy.specs.Choices.{Chooses}
@@ -27,11 +31,11 @@ use Rattle.load_runner.specs.declared.figures.Figures.{Figures}
 use Rattle.copland_cli.specs.Loaded.{ending_of_load}
 use Rattle.copland_cli.specs.Ordered.{AreJudged, IsOfClaims, SaysOfClaims, ending_of_claims, found_text, some_broken}
 use Rattle.copland_cli.specs.Commands.{IsPlain}
-use Rattle.copland_cli.specs.Meaning.{IsOfLoadIn, IsOfRecordsIn, IsOfWalkIn, IsReport}
+use Rattle.copland_cli.specs.Meaning.{IsOfLoadIn, IsOfRecordingIn, IsOfRecordsIn, IsOfWalkIn, IsReport}
 use Rattle.copland_cli.specs.Reported.{AreRecords, Failing, Giving, Starving, SaysOfEach, aspect_text, ending_of, some_failed}
 use Rattle.copland_cli.specs.declared.ending.Ending.{Ending}
 use Rattle.copland_cli.specs.declared.session.Aspect.TheVariants as aspects
-use Rattle.copland_cli.specs.Command.{Command, Check, Shape, Events, Code, Eval, Walk, Order, Choose, Attest, Appraise, Upgrade, Load, Audit}
+use Rattle.copland_cli.specs.Command.{Command, Check, Shape, Events, Code, Eval, Walk, Order, Choose, Attest, Appraise, Upgrade, Load, Audit, Record as Recording}
 use Rattle.copland_cli.proofs.AuditLemmas.{same_audit}
 use Rattle.copland_cli.proofs.AppraiseLemmas.{same_upgrade, same_verdicts}
 
@@ -124,25 +128,36 @@ same_of_loads Gives Fails law job number text other ending ended h k =
       h.ended ∙ ap (λ (f : Figures). ending_of_load (has_accepted_all f)) figures ∙ sym k.ended,
     )
 
-on_one_job : (Gives : Giving) (Fails : Failing) (Starves : Starving) (law : HasOneRecord Gives Fails) (walks : HasOneWalk Gives Fails Starves) (laws : AreOne) (command : Command) (job : JobView) (text other : List ℕ) (ending ended : Ending) → IsPlain command → IsReport Gives Fails Starves command job text ending → IsReport Gives Fails Starves command job other ended → (text ≡ other) × (ending ≡ ended)
-on_one_job Gives Fails Starves law walks laws Check job text other ending ended plain h k = same_each (aspect_text aspects.Check) job.sessions text other ending ended h k
-on_one_job Gives Fails Starves law walks laws Shape job text other ending ended plain h k = same_each (aspect_text aspects.Shape) job.sessions text other ending ended h k
-on_one_job Gives Fails Starves law walks laws Events job text other ending ended plain h k = same_each (aspect_text aspects.Events) job.sessions text other ending ended h k
-on_one_job Gives Fails Starves law walks laws Code job text other ending ended plain h k = same_each (aspect_text aspects.Code) job.sessions text other ending ended h k
-on_one_job Gives Fails Starves law walks laws Eval job text other ending ended plain h k = same_of_records Gives Fails law job values_text text other ending ended h k
-on_one_job Gives Fails Starves law walks laws (Walk number) job text other ending ended plain h k = same_of_walks Gives Fails Starves walks job number text other ending ended h k
-on_one_job Gives Fails Starves law walks laws (Order claims) job text other ending ended plain h k = same_of_claims laws claims job.sessions text other ending ended h k
-on_one_job Gives Fails Starves law walks laws (Choose policy) job text other ending ended plain h k = same_of_choices laws policy job.sessions text other ending ended h k
-on_one_job Gives Fails Starves law walks laws (Attest workers) job text other ending ended plain h k = absurd plain
-on_one_job Gives Fails Starves law walks laws Appraise job text other ending ended plain h k = same_verdicts job text other ending ended h k
-on_one_job Gives Fails Starves law walks laws Upgrade job text other ending ended plain h k = same_upgrade job text other ending ended h k
-on_one_job Gives Fails Starves law walks laws (Load number) job text other ending ended plain h k = same_of_loads Gives Fails law job number text other ending ended h k
-on_one_job Gives Fails Starves law walks laws Audit job text other ending ended plain h k = same_audit Gives Fails Starves job text other ending ended h k
+-- and one list of transcripts
+abbrev pub HasOneRecording : Giving → Failing → Starving → Type 0
+HasOneRecording Gives Fails Starves =
+    (job : JobView) (number : ℕ) (one other : List RecordedSession) → AreOfRecordedWalk (Gives job.artefacts) (Fails job.artefacts) (Starves job.artefacts) (place_names job.places) (keys_of job.places) job.sessions number one → AreOfRecordedWalk (Gives job.artefacts) (Fails job.artefacts) (Starves job.artefacts) (place_names job.places) (keys_of job.places) job.sessions number other → one ≡ other
+
+same_of_recordings : (Gives : Giving) (Fails : Failing) (Starves : Starving) (recorded : HasOneRecording Gives Fails Starves) (job : JobView) (number : ℕ) (text other : List ℕ) (ending ended : Ending) → IsOfRecordingIn Gives Fails Starves job number text ending → IsOfRecordingIn Gives Fails Starves job number other ended → (text ≡ other) × (ending ≡ ended)
+same_of_recordings Gives Fails Starves recorded job number text other ending ended h k =
+    let same = recorded job number h.recordings k.recordings h.walked k.walked in
+    (h.reported ∙ ap (λ (r : List RecordedSession). transcripts_text (map transcript_in r)) same ∙ sym k.reported, h.ended ∙ ap (λ (r : List RecordedSession). ending_of (one_failed r)) same ∙ sym k.ended)
+
+on_one_job : (Gives : Giving) (Fails : Failing) (Starves : Starving) (law : HasOneRecord Gives Fails) (walks : HasOneWalk Gives Fails Starves) (recorded : HasOneRecording Gives Fails Starves) (laws : AreOne) (command : Command) (job : JobView) (text other : List ℕ) (ending ended : Ending) → IsPlain command → IsReport Gives Fails Starves command job text ending → IsReport Gives Fails Starves command job other ended → (text ≡ other) × (ending ≡ ended)
+on_one_job Gives Fails Starves law walks recorded laws Check job text other ending ended plain h k = same_each (aspect_text aspects.Check) job.sessions text other ending ended h k
+on_one_job Gives Fails Starves law walks recorded laws Shape job text other ending ended plain h k = same_each (aspect_text aspects.Shape) job.sessions text other ending ended h k
+on_one_job Gives Fails Starves law walks recorded laws Events job text other ending ended plain h k = same_each (aspect_text aspects.Events) job.sessions text other ending ended h k
+on_one_job Gives Fails Starves law walks recorded laws Code job text other ending ended plain h k = same_each (aspect_text aspects.Code) job.sessions text other ending ended h k
+on_one_job Gives Fails Starves law walks recorded laws Eval job text other ending ended plain h k = same_of_records Gives Fails law job values_text text other ending ended h k
+on_one_job Gives Fails Starves law walks recorded laws (Walk number) job text other ending ended plain h k = same_of_walks Gives Fails Starves walks job number text other ending ended h k
+on_one_job Gives Fails Starves law walks recorded laws (Order claims) job text other ending ended plain h k = same_of_claims laws claims job.sessions text other ending ended h k
+on_one_job Gives Fails Starves law walks recorded laws (Choose policy) job text other ending ended plain h k = same_of_choices laws policy job.sessions text other ending ended h k
+on_one_job Gives Fails Starves law walks recorded laws (Attest workers) job text other ending ended plain h k = absurd plain
+on_one_job Gives Fails Starves law walks recorded laws Appraise job text other ending ended plain h k = same_verdicts job text other ending ended h k
+on_one_job Gives Fails Starves law walks recorded laws Upgrade job text other ending ended plain h k = same_upgrade job text other ending ended h k
+on_one_job Gives Fails Starves law walks recorded laws (Load number) job text other ending ended plain h k = same_of_loads Gives Fails law job number text other ending ended h k
+on_one_job Gives Fails Starves law walks recorded laws (Recording number) job text other ending ended plain h k = same_of_recordings Gives Fails Starves recorded job number text other ending ended h k
+on_one_job Gives Fails Starves law walks recorded laws Audit job text other ending ended plain h k = same_audit Gives Fails Starves job text other ending ended h k
 
 -- two jobs that are one finding are one job
 pub same_job : (job other : JobView) → accepted job ≡ accepted other → other ≡ job
 same_job job other same = cc
 
-pub on_one_finding : (Gives : Giving) (Fails : Failing) (Starves : Starving) (law : HasOneRecord Gives Fails) (walks : HasOneWalk Gives Fails Starves) (laws : AreOne) (command : Command) (job again : JobView) (text other : List ℕ) (ending ended : Ending) → IsPlain command → accepted job ≡ accepted again → IsReport Gives Fails Starves command job text ending → IsReport Gives Fails Starves command again other ended → (text ≡ other) × (ending ≡ ended)
-on_one_finding Gives Fails Starves law walks laws command job again text other ending ended plain same h k =
-    on_one_job Gives Fails Starves law walks laws command job text other ending ended plain h (subst (λ (j : JobView). IsReport Gives Fails Starves command j other ended) (same_job job again same) k)
+pub on_one_finding : (Gives : Giving) (Fails : Failing) (Starves : Starving) (law : HasOneRecord Gives Fails) (walks : HasOneWalk Gives Fails Starves) (recorded : HasOneRecording Gives Fails Starves) (laws : AreOne) (command : Command) (job again : JobView) (text other : List ℕ) (ending ended : Ending) → IsPlain command → accepted job ≡ accepted again → IsReport Gives Fails Starves command job text ending → IsReport Gives Fails Starves command again other ended → (text ≡ other) × (ending ≡ ended)
+on_one_finding Gives Fails Starves law walks recorded laws command job again text other ending ended plain same h k =
+    on_one_job Gives Fails Starves law walks recorded laws command job text other ending ended plain h (subst (λ (j : JobView). IsReport Gives Fails Starves command j other ended) (same_job job again same) k)

@@ -6,7 +6,7 @@ use Rattle.report_text.specs.declared.refusal.Refusal.{Refusal}
 use Rattle.report_text.specs.declared.refusal.Refusal.TheVariants as refusals
 use Rattle.copland_cli.specs.Answer.{IsAnswer}
 use Rattle.copland_cli.specs.Attested.{AttestsEachJob, HasAttested, IsAttesting, IsOfAttestations}
-use Rattle.copland_cli.specs.Command.{Command, Check, Shape, Events, Code, Eval, Walk, Order, Choose, Attest, Appraise, Upgrade, Load, Audit}
+use Rattle.copland_cli.specs.Command.{Command, Check, Shape, Events, Code, Eval, Walk, Order, Choose, Attest, Appraise, Upgrade, Load, Audit, Record}
 use Rattle.copland_cli.specs.Commands.{IsAny, IsPlain}
 use Rattle.copland_cli.specs.Concluded.{IsConcluded}
 use Rattle.copland_cli.specs.Input.{IsReadAs, IsUnreadable, is_required}
@@ -41,6 +41,7 @@ none_known words none bad Appraise spelled = bad Appraise spelled tt
 none_known words none bad Upgrade spelled = bad Upgrade spelled tt
 none_known words none bad (Load number) spelled = bad (Load number) spelled tt
 none_known words none bad Audit spelled = bad Audit spelled tt
+none_known words none bad (Record number) spelled = bad (Record number) spelled tt
 
 decided_of_any : (Gives : Giving) (Fails : Failing) (Starves : Starving) (words : List (List ℕ)) (source : Port) (outcome : Outcome) → ((workers : ℕ) → ¬ Spells words (Attest workers)) → IsDecided IsPlain Gives Fails Starves words source outcome → IsDecided IsAny Gives Fails Starves words source outcome
 decided_of_any Gives Fails Starves words source outcome none (inl run) = inl (run.0, run.1, tt, run.3)

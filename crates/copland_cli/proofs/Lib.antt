@@ -3,6 +3,7 @@ pub mod PortLemmas
 pub mod FeedLemmas
 pub mod AppraiseLemmas
 pub mod AuditLemmas
+pub mod RecordingLemmas
 pub mod OfferLemmas
 pub mod MeaningLemmas
 pub mod OutcomeLemmas

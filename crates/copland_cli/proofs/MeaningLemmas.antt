@@ -4,7 +4,7 @@ use Rattle.job_reader.specs.Finding.{JobView}
 use Rattle.copland_cli.specs.Appraised.{HasNoUpgrade, HasNoVerdicts, IsOfUpgrade, IsOfVerdicts}
 use Rattle.copland_cli.specs.Meaning.{IsDecisive, IsReport, IsSure, RefusesJob}
 use Rattle.copland_cli.specs.Reported.{Failing, Giving, Starving}
-use Rattle.copland_cli.specs.Command.{Command, Check, Shape, Events, Code, Eval, Walk, Order, Choose, Attest, Appraise, Upgrade, Load, Audit}
+use Rattle.copland_cli.specs.Command.{Command, Check, Shape, Events, Code, Eval, Walk, Order, Choose, Attest, Appraise, Upgrade, Load, Audit, Record}
 use Rattle.copland_cli.specs.declared.ending.Ending.{Ending}
 use Rattle.copland_cli.specs.Audited.{HasNoAudit, IsOfAudit, IsSureTranscript}
 use Rattle.copland_cli.proofs.AuditLemmas.{audit_late, audit_none, audit_one}
@@ -52,4 +52,5 @@ decisive Gives Fails Starves (Attest workers) job = none_refused (IsReport Gives
 decisive Gives Fails Starves Appraise job = of_verdicts job
 decisive Gives Fails Starves Upgrade job = of_upgrade job
 decisive Gives Fails Starves (Load number) job = none_refused (IsReport Gives Fails Starves (Load number) job)
+decisive Gives Fails Starves (Record number) job = none_refused (IsReport Gives Fails Starves (Record number) job)
 decisive Gives Fails Starves Audit job = of_audit Gives Fails Starves job

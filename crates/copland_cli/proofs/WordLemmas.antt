@@ -3,7 +3,7 @@ use Rattle.std.proofs.Common.{◌≡◌, ◌<◌, ◌^◌, ℕ, List, [], ◌∷
 use Rattle.std.specs.Prelude.{◌≢◌, codes, decimal, nat_eq, if◌then◌else◌, MatchOption, Option, None, Some}
 use lib.Pointwise.{pointwise}
 use Rattle.std.proofs.lemmas.Fmt.{decimal_injective}
-use Rattle.copland_cli.specs.Command.{Command, Check, Shape, Events, Code, Eval, Walk, Order, Choose, Attest, Appraise, Upgrade, Load, Audit}
+use Rattle.copland_cli.specs.Command.{Command, Check, Shape, Events, Code, Eval, Walk, Order, Choose, Attest, Appraise, Upgrade, Load, Audit, Record}
 use Rattle.copland_cli.specs.Words.{Spells}
 
 -- commands without their numbers and texts
@@ -21,6 +21,7 @@ data Kind : Type 0 where
   upgrade : Kind
   load : Kind
   audit : Kind
+  recording : Kind
 
 abbrev kind_of : Command → Kind
 kind_of Check = check
@@ -36,6 +37,7 @@ kind_of Appraise = appraise
 kind_of Upgrade = upgrade
 kind_of (Load number) = load
 kind_of Audit = audit
+kind_of (Record number) = recording
 
 -- the number of a command that has one
 abbrev number_of : Command → ℕ
@@ -52,6 +54,7 @@ number_of Appraise = 0
 number_of Upgrade = 0
 number_of (Load number) = number
 number_of Audit = 0
+number_of (Record number) = number
 
 -- the last word of a command, where it has more than one; else a zero
 abbrev last_of : Command → List ℕ
@@ -68,6 +71,7 @@ last_of Appraise = decimal 0
 last_of Upgrade = decimal 0
 last_of (Load number) = decimal number
 last_of Audit = decimal 0
+last_of (Record number) = decimal number
 
 abbrev command_of : Kind → ℕ → List ℕ → Command
 command_of check number text = Check
@@ -83,6 +87,7 @@ command_of appraise number text = Appraise
 command_of upgrade number text = Upgrade
 command_of load number text = Load number
 command_of audit number text = Audit
+command_of recording number text = Record number
 
 parts : (command : Command) → command_of (kind_of command) (number_of command) (last_of command) ≡ command
 parts Check = refl
@@ -98,6 +103,7 @@ parts Appraise = refl
 parts Upgrade = refl
 parts (Load number) = refl
 parts Audit = refl
+parts (Record number) = refl
 
 -- the number as a word, where the last word is that of a number
 abbrev number_word : Kind → List ℕ → List ℕ
@@ -114,6 +120,7 @@ number_word appraise last = last
 number_word upgrade last = last
 number_word load last = last
 number_word audit last = last
+number_word recording last = last
 
 number_is : (command : Command) → number_word (kind_of command) (last_of command) ≡ decimal (number_of command)
 number_is Check = refl
@@ -129,6 +136,7 @@ number_is Appraise = refl
 number_is Upgrade = refl
 number_is (Load number) = refl
 number_is Audit = refl
+number_is (Record number) = refl
 
 -- the kind that a first word names
 abbrev kind_named : List ℕ → Option Kind
@@ -146,6 +154,7 @@ kind_named word =
     else if pointwise nat_eq word (codes "upgrade") then Some upgrade
     else if pointwise nat_eq word (codes "load") then Some load
     else if pointwise nat_eq word (codes "audit") then Some audit
+    else if pointwise nat_eq word (codes "record") then Some recording
     else None
 
 abbrev kind_among : List (List ℕ) → Option Kind
@@ -178,6 +187,7 @@ tells words (Attest workers) h = record { kind = ap (λ w. kind_among w) h.0; la
 tells words Appraise h = record { kind = ap (λ w. kind_among w) h; last = ap (λ w. last_among w) h; small = omega arith }
 tells words Upgrade h = record { kind = ap (λ w. kind_among w) h; last = ap (λ w. last_among w) h; small = omega arith }
 tells words (Load number) h = record { kind = ap (λ w. kind_among w) h.0; last = ap (λ w. last_among w) h.0; small = h.1 }
+tells words (Record number) h = record { kind = ap (λ w. kind_among w) h.0; last = ap (λ w. last_among w) h.0; small = h.1 }
 tells words Audit h = record { kind = ap (λ w. kind_among w) h; last = ap (λ w. last_among w) h; small = omega arith }
 
 pub one_command : (words : List (List ℕ)) (one other : Command) → Spells words one → Spells words other → one ≡ other

@@ -1,6 +1,6 @@
 -- What `audit` reports of the transcript that the bundle of a job is taken for, and why it refuses it. Both are this
 -- project's own.
-use Rattle.std.specs.Prelude.{◌≡◌, ◌≢◌, ◌⊎◌, ◌++◌, ℕ, List, ◌∷◌, Some, Result, Ok, Err}
+use Rattle.std.specs.Prelude.{◌≡◌, ◌≢◌, ◌⊎◌, ◌++◌, ℕ, List, ◌∷◌, Some, Result, Err}
 use Rattle.bench_trait.specs.declared.ask.Ask.{Ask}
 use Rattle.bench_trait.specs.declared.bench.BenchFault.{BenchFault}
 use Rattle.bench_trait.specs.Asking.{question_among}

@@ -22,6 +22,8 @@ pub data Command : Type 0 where
   -- the number of its job
   Load : ℕ → Command
   Audit : Command
+  -- the number of its schedule
+  Record : ℕ → Command
 
 -- the command that the program holds
 abbrev pub command_view : CodeCommand → Command
@@ -38,3 +40,4 @@ command_view code.Appraise = Appraise
 command_view code.Upgrade = Upgrade
 command_view (code.Load number) = Load number
 command_view code.Audit = Audit
+command_view (code.Record number) = Record number

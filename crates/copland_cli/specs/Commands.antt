@@ -1,5 +1,5 @@
 -- Which commands are known where, and what each reads.
-use Rattle.copland_cli.specs.Command.{Command, Check, Shape, Events, Code, Eval, Walk, Order, Choose, Attest, Appraise, Upgrade, Load, Audit}
+use Rattle.copland_cli.specs.Command.{Command, Check, Shape, Events, Code, Eval, Walk, Order, Choose, Attest, Appraise, Upgrade, Load, Audit, Record}
 use Rattle.copland_cli.specs.declared.input.BundleNeed.TheVariants.{Optional, Required}
 use Rattle.copland_cli.specs.declared.input.Input.{Input}
 use Rattle.copland_cli.specs.declared.input.Input.TheVariants.{Nothing, Job}
@@ -19,6 +19,7 @@ IsPlain Appraise = Unit {0}
 IsPlain Upgrade = Unit {0}
 IsPlain (Load number) = Unit {0}
 IsPlain Audit = Unit {0}
+IsPlain (Record number) = Unit {0}
 
 -- with threads every command runs
 abbrev pub IsAny : Command → Type 0
@@ -39,6 +40,7 @@ input_of Appraise = Job Required
 input_of Upgrade = Job Required
 input_of (Load number) = Nothing
 input_of Audit = Job Required
+input_of (Record number) = Job Optional
 
 -- any accepted job will do, with or without a bundle
 abbrev pub IsOfAny : Input → Type 0

@@ -12,7 +12,7 @@ use Rattle.copland_cli.specs.declared.input.BundleNeed.{BundleNeed}
 use Rattle.copland_cli.specs.declared.input.BundleNeed.TheVariants.{Optional, Required}
 use Rattle.copland_cli.specs.declared.input.Input.{Input}
 use Rattle.copland_cli.specs.declared.input.Input.TheVariants.{Nothing, Job}
-use Rattle.copland_cli.specs.Command.{Command, Check, Shape, Events, Code, Eval, Walk, Order, Choose, Attest, Appraise, Upgrade, Load, Audit}
+use Rattle.copland_cli.specs.Command.{Command, Check, Shape, Events, Code, Eval, Walk, Order, Choose, Attest, Appraise, Upgrade, Load, Audit, Record}
 
 -- the job must have a bundle
 abbrev pub is_required : BundleNeed → Bool
@@ -61,6 +61,7 @@ IsMade Appraise job = ⊥
 IsMade Upgrade job = ⊥
 IsMade (Load number) job = job ≡ made_job number
 IsMade Audit job = ⊥
+IsMade (Record number) job = ⊥
 
 -- the job that a command is about: the accepted job that was read, or the one that the command makes, and
 -- then the source wasn't read

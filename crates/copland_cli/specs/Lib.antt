@@ -14,6 +14,7 @@ pub mod Appraised
 pub mod Offered
 pub mod Loaded
 pub mod Audited
+pub mod Recordings
 pub mod Meaning
 pub mod Upgraded
 pub mod Digests

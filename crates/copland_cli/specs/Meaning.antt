@@ -11,12 +11,13 @@ use Rattle.copland_cli.specs.Chosen.{IsOfChoice}
 use Rattle.copland_cli.specs.Appraised.{HasNoUpgrade, HasNoVerdicts, IsOfUpgrade, IsOfVerdicts}
 use Rattle.copland_cli.specs.Audited.{HasNoAudit, IsOfAudit, IsSureTranscript}
 use Rattle.copland_cli.specs.Loaded.{IsOfLoad}
+use Rattle.copland_cli.specs.Recordings.{IsOfRecording}
 use Rattle.copland_cli.specs.Ordered.{IsOfClaims}
 use Rattle.copland_cli.specs.Attested.{IsOfAttestations}
 use Rattle.copland_cli.specs.Reported.{Failing, Giving, Starving, IsOfRecords, IsOfWalk, SaysOfEach, aspect_text}
 use Rattle.copland_cli.specs.declared.ending.Ending.{Ending}
 use Rattle.copland_cli.specs.declared.session.Aspect.TheVariants as aspects
-use Rattle.copland_cli.specs.Command.{Command, Check, Shape, Events, Code, Eval, Walk, Order, Choose, Attest, Appraise, Upgrade, Load, Audit}
+use Rattle.copland_cli.specs.Command.{Command, Check, Shape, Events, Code, Eval, Walk, Order, Choose, Attest, Appraise, Upgrade, Load, Audit, Record as Recording}
 
 -- a command refuses an accepted job for this
 abbrev pub RefusesJob : Giving → Failing → Starving → Command → JobView → Refusal → Type 0
@@ -32,6 +33,7 @@ RefusesJob Gives Fails Starves (Attest workers) job why = ⊥
 RefusesJob Gives Fails Starves Appraise job why = HasNoVerdicts job why
 RefusesJob Gives Fails Starves Upgrade job why = HasNoUpgrade job why
 RefusesJob Gives Fails Starves (Load number) job why = ⊥
+RefusesJob Gives Fails Starves (Recording number) job why = ⊥
 RefusesJob Gives Fails Starves Audit job why = HasNoAudit Gives Fails Starves job why
 
 -- the report is this text of one record of each session of a job
@@ -43,6 +45,11 @@ IsOfRecordsIn Gives Fails job text_of text ending =
 abbrev pub IsOfWalkIn : Giving → Failing → Starving → JobView → ℕ → List ℕ → Ending → Type 0
 IsOfWalkIn Gives Fails Starves job number text ending =
     IsOfWalk (Gives job.artefacts) (Fails job.artefacts) (Starves job.artefacts) job.places job.sessions number text ending
+
+-- the report is that of the transcripts of a walk of this number over the sessions of a job
+abbrev pub IsOfRecordingIn : Giving → Failing → Starving → JobView → ℕ → List ℕ → Ending → Type 0
+IsOfRecordingIn Gives Fails Starves job number text ending =
+    IsOfRecording (Gives job.artefacts) (Fails job.artefacts) (Starves job.artefacts) job.places job.sessions number text ending
 
 -- the report is what is counted of the sessions of a job, under a number
 abbrev pub IsOfLoadIn : Giving → Failing → JobView → ℕ → List ℕ → Ending → Type 0
@@ -63,6 +70,7 @@ IsReport Gives Fails Starves (Attest workers) job text ending = IsOfAttestations
 IsReport Gives Fails Starves Appraise job text ending = IsOfVerdicts job text ending
 IsReport Gives Fails Starves Upgrade job text ending = IsOfUpgrade job text ending
 IsReport Gives Fails Starves (Load number) job text ending = IsOfLoadIn Gives Fails job number text ending
+IsReport Gives Fails Starves (Recording number) job text ending = IsOfRecordingIn Gives Fails Starves job number text ending
 IsReport Gives Fails Starves Audit job text ending = IsOfAudit Gives Fails Starves job text ending
 
 -- the refusal is one that a command may have after those of the job
@@ -92,6 +100,7 @@ IsSure Gives Fails (Attest workers) job = Unit {0}
 IsSure Gives Fails Appraise job = Unit {0}
 IsSure Gives Fails Upgrade job = Unit {0}
 IsSure Gives Fails (Load number) job = Unit {0}
+IsSure Gives Fails (Recording number) job = Unit {0}
 IsSure Gives Fails Audit job = IsSureTranscript Gives Fails job
 
 -- a command refuses an accepted job only for what comes after the refusals of the job; and where the bench makes the

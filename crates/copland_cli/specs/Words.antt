@@ -2,7 +2,7 @@
 use Rattle.std.specs.Prelude.{◌≡◌, ◌^◌, ◌<◌, ◌≤◌, ℕ, List, [], ◌∷◌, codes, decimal, map, String, string_bytes}
 use Rattle.order_policy.specs.Policy.{IsPolicyText}
 use Rattle.release_policy.specs.PolicyText.{HasPolicy}
-use Rattle.copland_cli.specs.Command.{Command, Check, Shape, Events, Code, Eval, Walk, Order, Choose, Attest, Appraise, Upgrade, Load, Audit}
+use Rattle.copland_cli.specs.Command.{Command, Check, Shape, Events, Code, Eval, Walk, Order, Choose, Attest, Appraise, Upgrade, Load, Audit, Record}
 
 -- words as texts
 abbrev pub texts : {A : Type 0} → List (String A) → List (List ℕ)
@@ -25,6 +25,7 @@ Spells words Appraise = words ≡ codes "appraise" ∷ []
 Spells words Upgrade = words ≡ codes "upgrade" ∷ []
 Spells words (Load number) = (words ≡ codes "load" ∷ decimal number ∷ []) × (number < 2 ^ 32)
 Spells words Audit = words ≡ codes "audit" ∷ []
+Spells words (Record number) = (words ≡ codes "record" ∷ decimal number ∷ []) × (number < 2 ^ 32)
 
 -- the words are those of no command
 abbrev pub IsNoCommand : List (List ℕ) → Type 0

@@ -1,5 +1,5 @@
 use crate::status::Status;
-use crate::test_runs::{JOB_HEAD, WHOLE, expect_run, expect_with, row, rows_of};
+use crate::test_runs::{JOB_HEAD, WHOLE, expect_measured, expect_run, expect_with, row, rows_of};
 use bench_trait::{TableBench, TableResult};
 use std::alloc::Global;
 use std::process::Abort;
@@ -194,4 +194,49 @@ fn jobs_are_refused_ahead_of_their_transcripts(rt: HostRuntime) -> Result<(), Fa
     job.push_str("CPY\"}]}")?;
     let want = (Status::BadJob, "error: job $.bundle missing\n");
     expect_run(&rt, alloc, "audit", job.as_str(), &WHOLE, want)
+}
+
+#[test]
+fn sessions_are_recorded(rt: HostRuntime) -> Result<(), Fail> {
+    let alloc = rt.alloc();
+    let bench = TableBench::of(rows_of(&rt, alloc, &[(0, &[0xaa, 0xbb])])?);
+    let table = [
+        (
+            "CPY",
+            "record 0",
+            Status::Good,
+            "session 0 transcript 43504c540100000002000000000000000000000000\n",
+        ),
+        (
+            "CPY",
+            "record 4294967295",
+            Status::Good,
+            "session 0 transcript 43504c540100000002000000000000000000000000\n",
+        ),
+        (
+            "USM scan",
+            "record 0",
+            Status::Good,
+            "session 0 transcript 43504c5401000000030100000000000300000000000000000002aabb000000000000\n",
+        ),
+        (
+            "USM a +~- USM b",
+            "record 0",
+            Status::SomeFailed,
+            "session 0 transcript 43504c54010000000300000000000001000000000004000000000000000100\n",
+        ),
+        (
+            "USM a +~- USM b",
+            "record 3",
+            Status::SomeFailed,
+            "session 0 transcript 43504c5401000000030000000000000100000000010000000004000000000000000200\n",
+        ),
+    ];
+    expect_measured(&rt, alloc, &bench, &table)?;
+    let mut job = String::from_str(alloc, TWO_SESSIONS)?;
+    job.push_str("0,\"bytes\":\"\"}}")?;
+    let report =
+        "session 0 transcript 43504c540100000002000000000000000000000000\nsession 1 transcript 43504c540100000003000000000000000000000000000000000000\n";
+    let want = (Status::Good, report);
+    expect_run(&rt, alloc, "record 5", job.as_str(), &WHOLE, want)
 }

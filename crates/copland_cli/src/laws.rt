@@ -21,6 +21,7 @@ use load_runner::made_jobs_are_accepted;
 use order_policy::{judged_law, policy_law};
 use plain_eval::digests_make_one_record;
 use release_policy::reading_law;
+use session_runs::{rounds_law, schedule_law};
 use session_walk::digests_make_one_walk;
 
 /// A command has at most one refusal of an accepted job after the job's own, and never
@@ -48,6 +49,8 @@ pub fn reports_follow_from_bytes(_bytes: &[u8])
     one_finding(_bytes, true);
     digests_make_one_record();
     digests_make_one_walk();
+    rounds_law();
+    schedule_law();
     policy_law();
     judged_law();
     reading_law();

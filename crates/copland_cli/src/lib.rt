@@ -32,6 +32,7 @@ mod order;
 mod order_tests;
 mod outcome;
 mod plain;
+mod record;
 #[cfg(test)]
 mod refusal_tests;
 mod session;

@@ -21,6 +21,7 @@ use crate::evaluate::values_of;
 use crate::input::{Input, read_job};
 use crate::load::load;
 use crate::order::judge_each;
+use crate::record::record_each;
 use crate::session::{Aspect, push_aspect, some_failed, walked};
 use crate::upgrade::upgrade_bundle;
 use crate::words::{Command, command_of};
@@ -92,6 +93,7 @@ fn run_alone<B: Bench>(alloc: Global, command: Command<'_>, bench: &B) -> Outcom
 {
     match command {
         Command::Load(number) => load(alloc, number, bench),
+        Command::Record(_) => unreachable!(),
         Command::Check | Command::Shape | Command::Events | Command::Code => unreachable!(),
         Command::Eval | Command::Walk(_) | Command::Order(_) | Command::Choose(_) => {
             unreachable!()
@@ -129,6 +131,7 @@ fn run_over<B: Bench>(alloc: Global, command: Command<'_>, job: &Job, bench: &B)
         Command::Eval | Command::Walk(_) | Command::Order(_) | Command::Choose(_) => {
             run_over_any(alloc, command, job, bench)
         }
+        Command::Record(_) => run_over_any(alloc, command, job, bench),
         Command::Attest(_) | Command::Load(_) => unreachable!(),
     }
 }
@@ -167,6 +170,7 @@ fn report_on<B: Bench>(
         Command::Code => describe_each(alloc, Aspect::Code, job),
         Command::Eval => evaluate_each(alloc, job, bench),
         Command::Walk(number) => walk_each(alloc, job, bench, number),
+        Command::Record(number) => record_each(alloc, job, bench, number),
         Command::Order(text) => judge_claims(alloc, job, text),
         Command::Choose(text) => choose_session(alloc, job, text),
         Command::Appraise | Command::Upgrade | Command::Audit => unreachable!(),

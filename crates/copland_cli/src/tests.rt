@@ -45,6 +45,9 @@ fn words_are_told_apart(rt: HostRuntime) -> Result<(), Fail> {
         "load 4294967296",
         "load 7 7",
         "audit 0",
+        "record",
+        "record 01",
+        "record 4294967296",
         "--help",
     ];
     expect_words(&rt, alloc, &wrong, (Status::BadWords, "error: words\n"))?;

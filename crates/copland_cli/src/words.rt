@@ -31,6 +31,8 @@ pub enum Command<'w> {
     Load(u32),
     /// Audits the transcript that the bundle of a job is.
     Audit,
+    /// Transcripts by the schedule of this number.
+    Record(u32),
 }
 
 impl Command<'_> {
@@ -50,6 +52,7 @@ impl Command<'_> {
             Command::Appraise | Command::Upgrade | Command::Audit => {
                 Input::Job(BundleNeed::Required)
             }
+            Command::Record(_) => Input::Job(BundleNeed::Optional),
             Command::Load(_) => Input::Nothing,
         }
     }
@@ -91,7 +94,7 @@ fn workers_by(command: Command<'_>) -> Option<u32>
     match command {
         Command::Attest(workers) => Some(workers),
         Command::Check | Command::Shape | Command::Events | Command::Code | Command::Eval => None,
-        Command::Walk(_) | Command::Order(_) | Command::Choose(_) => None,
+        Command::Walk(_) | Command::Order(_) | Command::Choose(_) | Command::Record(_) => None,
         Command::Appraise | Command::Upgrade | Command::Load(_) | Command::Audit => None,
     }
 }
@@ -151,6 +154,9 @@ fn paired<'w>(word: &str, second: &'w str) -> Option<Command<'w>>
     }
     if word == "load" {
         return Some(Command::Load(number));
+    }
+    if word == "record" {
+        return Some(Command::Record(number));
     }
     None
 }
