@@ -1,19 +1,25 @@
 -- Recordings of sessions.
-use Rattle.std.proofs.Common.{◌≡◌, ℕ, suc, ◌+◌, List, [], ◌∷◌, ◌++◌, ◌∙◌, refl, ap}
+use Rattle.std.proofs.Common.{◌≡◌, ℕ, suc, ◌+◌, List, [], ◌∷◌, ◌++◌, refl, sym, ◌∙◌, ap, subst}
 use Rattle.std.specs.Prelude.{Bool, true, false, Some, Result, slice_get}
 use Rattle.std.specs.List.{AllByRecursion}
+use Rattle.std.proofs.lemmas.Option.{none-some, same_Some}
+use Rattle.evidence_types.specs.Bytes.{bundle}
+use Rattle.bench_trait.specs.declared.ask.Ask.{Ask}
+use Rattle.bench_trait.specs.declared.bench.BenchFault.{BenchFault}
 use Rattle.bench_trait.specs.declared.bench.MeasureError.{MeasureError}
-use Rattle.session_model.specs.Session.{Session}
-use Rattle.session_model.specs.Record.{Record}
-use Rattle.session_runs.specs.Standing.{Entry, opened, played, answered, failed, starved, State as SessionState, is_open, is_done, has_failed, has_starved}
+use Rattle.session_model.specs.Session.{Session, session_questions}
+use Rattle.session_model.specs.Record.{Record, done, failed as failed_record}
+use Rattle.session_runs.specs.Standing.{Entry, opened, played, answered, failed, starved, State as SessionState, is_open, is_done, has_failed, has_starved, Standing}
+use Rattle.session_runs.specs.History.{IsLegal, answers_to, record_of}
 use Rattle.session_runs.specs.Schedule.{Walked}
-use Rattle.session_runs.specs.Played.{AreWalked, ArePlayed}
+use Rattle.session_runs.specs.Played.{AreWalked, ArePlayed, AreLegal}
 use Rattle.session_book.specs.declared.entry.State.{State as Word}
 use Rattle.session_book.specs.declared.entry.State.TheVariants.{Open, Done, Failed, Starved}
 use Rattle.session_core.specs.Reading.{word_of}
 use Rattle.session_walk.specs.Records.{record_in, AreRecordsOf}
 use Rattle.transcript.specs.declared.recording.RecordedSession.{RecordedSession}
-use Rattle.transcript.specs.Recording.{is_failure, IsRecordingOf, AreRecordingsOf, IsOfFirstPass, HasFirstPassAlone}
+use Rattle.transcript.specs.Bytes.{IsTranscriptOf}
+use Rattle.transcript.specs.Recording.{is_failure, IsRecordingOf, AreRecordingsOf, IsOfFirstPass, HasFirstPassAlone, is_failed, IsFinishedRecording, AreFinishedRecordings}
 
 -- one more at the end
 pub recordings_more : (all : List Walked) (recordings : List RecordedSession) (walked : Walked) (one : RecordedSession) → AreRecordingsOf all recordings → IsRecordingOf walked one → AreRecordingsOf (all ++ walked ∷ []) (recordings ++ one ∷ [])
@@ -61,3 +67,37 @@ of_state (has_starved event) = refl
 
 pub failure_word : (state : SessionState) (found : Word) → found ≡ word_of state → fails_by found ≡ is_failure state
 failure_word state found e = ap fails_by e ∙ of_state state
+
+-- a recording of a session that is played is a finished one
+fails_as : (session : Session) (standing : Standing) (state : SessionState) (found : Record) → record_of session standing state ≡ Some found → is_failure state ≡ is_failed found
+fails_as session standing is_open found e = absurd (none-some found e)
+fails_as session standing (is_done value) found e =
+    ap is_failed (same_Some (done standing.trace (answers_to (session_questions session) standing.answers) (bundle value)) found e)
+fails_as session standing (has_failed event fault) found e = ap is_failed (same_Some (failed_record event fault standing.trace) found e)
+fails_as session standing (has_starved event) found e = absurd (none-some found e)
+
+module _ (Gives : Ask → List ℕ → Type 0) (Fails : Ask → BenchFault → Type 0) (Starves : Ask → Type 0) (keys : List (List ℕ × List ℕ)) (results : ℕ → ℕ → Result (List ℕ) MeasureError) where
+  finished : (session : Session) (walked : Walked) (found : Record) (one : RecordedSession) → walked.session ≡ session → IsLegal Gives Fails Starves session keys walked.history walked.standing → record_in walked ≡ Some found → IsRecordingOf walked one → IsFinishedRecording Gives Fails Starves keys session found one
+  finished session walked found one same legal r is = record {
+    text = record {
+      entries = is.text.entries;
+      standing = walked.standing;
+      text = subst (λ h. IsTranscriptOf one.bytes h) is.text.opens is.text;
+      legal = subst (λ h. IsLegal Gives Fails Starves session keys h walked.standing) is.text.opens legal;
+      record_is = ap (λ s. record_of s walked.standing walked.standing.state) (sym same) ∙ r;
+    };
+    fails = is.fails ∙ fails_as walked.session walked.standing walked.standing.state found r;
+  }
+
+  pub all_finished : (number : ℕ) (sessions : List Session) (all : List Walked) (records : List Record) (recordings : List RecordedSession) → ArePlayed keys results number sessions all → AreLegal Gives Fails Starves keys sessions all → AreRecordsOf all records → AreRecordingsOf all recordings → AreFinishedRecordings Gives Fails Starves keys sessions records recordings
+  all_finished number [] [] [] [] p l r w = tt
+  all_finished number [] [] [] (one ∷ recordings) p l r w = absurd w
+  all_finished number [] [] (found ∷ records) recordings p l r w = absurd r
+  all_finished number [] (walked ∷ all) records recordings p l r w = absurd p
+  all_finished number (session ∷ sessions) [] records recordings p l r w = absurd p
+  all_finished number (session ∷ sessions) (walked ∷ all) [] recordings p l r w = absurd r
+  all_finished number (session ∷ sessions) (walked ∷ all) (found ∷ records) [] p l r w = absurd w
+  all_finished number (session ∷ sessions) (walked ∷ all) (found ∷ records) (one ∷ recordings) p l r w = (
+    finished session walked found one p.0.same l.0 r.0 w.0,
+    all_finished (number + 1) sessions all records recordings p.1 l.1 r.1 w.1,
+  )

@@ -4,12 +4,13 @@ use Rattle.std.specs.List.{AllByRecursion}
 use Rattle.bench_trait.specs.declared.ask.Ask.{Ask}
 use Rattle.bench_trait.specs.declared.bench.BenchFault.{BenchFault}
 use Rattle.session_model.specs.Session.{Session}
-use Rattle.session_model.specs.Record.{Record}
+use Rattle.session_model.specs.Record.{Record, done, failed as failed_record}
 use Rattle.session_runs.specs.Standing.{Entry, opened, played, answered, failed, starved, State, is_open, is_done, has_failed, has_starved}
 use Rattle.session_runs.specs.Schedule.{Walked, scheduled}
 use Rattle.session_walk.specs.Records.{AreOfWalk}
 use Rattle.transcript.specs.declared.recording.RecordedSession.{RecordedSession}
 use Rattle.transcript.specs.Bytes.{IsTranscriptOf}
+use Rattle.transcript.specs.Audit.{IsFinishedText}
 
 -- a session has failed
 abbrev pub is_failure : State → Bool
@@ -50,3 +51,20 @@ pub record AreOfRecordedWalk (Gives : Ask → List ℕ → Type 0) (Fails : Ask 
   pub walk : AreOfWalk Gives Fails Starves places keys sessions number records
   pub written : AreRecordingsOf (scheduled places keys walk.results sessions number) recordings
   pub passes : AllByRecursion HasFirstPassAlone (scheduled places keys walk.results sessions number)
+
+-- a record says that its session failed
+abbrev pub is_failed : Record → Bool
+is_failed (done trace answers bytes) = false
+is_failed (failed_record event fault trace) = true
+
+-- a recording is the transcript of a legal history of this session that is done or failed, with this record
+pub record IsFinishedRecording (Gives : Ask → List ℕ → Type 0) (Fails : Ask → BenchFault → Type 0) (Starves : Ask → Type 0) (keys : List (List ℕ × List ℕ)) (session : Session) (found : Record) (one : RecordedSession) : Type 0 where
+  pub text : IsFinishedText Gives Fails Starves session keys one.bytes found
+  pub fails : one.has_failed ≡ is_failed found
+
+-- those of these sessions, in their order, each with its record
+abbrev pub AreFinishedRecordings : (Ask → List ℕ → Type 0) → (Ask → BenchFault → Type 0) → (Ask → Type 0) → List (List ℕ × List ℕ) → List Session → List Record → List RecordedSession → Type 0
+AreFinishedRecordings Gives Fails Starves keys [] [] [] = Unit {0}
+AreFinishedRecordings Gives Fails Starves keys (session ∷ sessions) (found ∷ records) (one ∷ more) =
+    IsFinishedRecording Gives Fails Starves keys session found one × AreFinishedRecordings Gives Fails Starves keys sessions records more
+AreFinishedRecordings Gives Fails Starves keys sessions records recordings = ⊥

@@ -15,6 +15,8 @@ mod laws;
 mod reading;
 mod recording;
 mod replay;
+#[cfg(test)]
+mod tests;
 mod writing;
 mod written;
 
@@ -22,5 +24,5 @@ pub use auditing::{AuditError, audit};
 pub use digests::audit_by_digests;
 pub use fault::{Stop, TranscriptKind};
 pub use laws::{one_spelling, starved_has_none, transcript_or_fault};
-pub use recording::{RecordedSession, record_sessions};
+pub use recording::{RecordedSession, record_sessions, recordings_law};
 pub use writing::{TranscriptError, write_transcript};

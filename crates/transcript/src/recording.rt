@@ -1,6 +1,7 @@
 //! The transcripts of the sessions of a job.
 
 ghost use Rattle.std.specs.Prelude.{◌≡◌, ◌<◌, ◌^◌, ℕ, List, Some, IfOk, length, map, slice_get};
+ghost use Rattle.bench_trait.specs.declared.artefacts.Artefact.{Artefact};
 ghost use Rattle.session_model.specs.Session.{Session as Meant};
 ghost use Rattle.session_runs.specs.Schedule.{Walked};
 ghost use Rattle.session_runs.specs.Played.{AskOnly};
@@ -10,7 +11,7 @@ ghost use Rattle.session_walk.specs.Sessions.{walked_in};
 ghost use Rattle.place_check.specs.Places.{keys_of};
 ghost use Rattle.place_check.specs.Session.{CheckedSession, IsCheckedAgainst, session_of};
 ghost use Rattle.checked_sessions.specs.Named.{place_names};
-ghost use Rattle.transcript.specs.Recording.{is_failure, IsRecordingOf, AreRecordingsOf, AreOfRecordedWalk};
+ghost use Rattle.transcript.specs.Recording.{is_failure, IsRecordingOf, AreRecordingsOf, AreOfRecordedWalk, AreFinishedRecordings};
 
 use crate::writing::write_transcript;
 use bench_trait::{ArtefactBook, Bench};
@@ -194,5 +195,31 @@ fn recorded_law<B: Bench>(bench: &B, artefacts: &ArtefactBook)
         recordings }
 {
     records_law(bench, artefacts);
+    schedule_law();
+}
+
+/// The law of recordings: each recording of a walk is the transcript of a legal history of its session that
+/// is done or failed, and has the record of that session in the walk; so over the same artefacts
+/// `audit_by_digests` accepts it, unless memory runs out. It does nothing.
+pub fn recordings_law<B: Bench>()
+    ensures { (bench : B) (artefacts : List Artefact) (places : List (List ℕ)) (keys : List (List ℕ × List ℕ)) (sessions : List Meant) (number : ℕ) (recordings : List RecordedSession) →
+        (those : AreOfRecordedWalk
+        (B.gives bench artefacts)
+        (B.fails bench artefacts)
+        (B.starves bench artefacts)
+        places
+        keys
+        sessions
+        number
+        recordings) →
+        AreFinishedRecordings
+        (B.gives bench artefacts)
+        (B.fails bench artefacts)
+        (B.starves bench artefacts)
+        keys
+        sessions
+        those.records
+        recordings }
+{
     schedule_law();
 }
