@@ -13,6 +13,8 @@ mod listing;
 mod playing;
 mod sending;
 mod session;
+#[cfg(test)]
+mod tests;
 mod touching;
 
 pub use answers::{Arrived, ResendError, WireError};
