@@ -25,7 +25,7 @@ EVENTS = 2048
 BRACKETS = 64
 SEALS = 1024
 COMMANDS = [
-    "check", "shape", "events", "code", "eval", "walk 0", "walk 3", "attest --workers 1", "attest --workers 4",
+    "check", "shape", "events", "code", "eval", "walk 0", "walk 3", "record 0", "attest --workers 1", "attest --workers 4",
     "order a@bank<b@bank", "choose bank:*=none>*",
 ]
 KEY = "000102030405060708090a0b0c0d0e0f"
