@@ -1,0 +1,10 @@
+pub mod FlightLemmas
+pub mod CameLemmas
+pub mod ReadingLemmas
+pub mod TableLemmas
+pub mod SentLemmas
+pub mod ZeroLemmas
+pub mod EntryLemmas
+pub mod TurnLemmas
+pub mod JobLemmas
+pub mod OneLemmas
