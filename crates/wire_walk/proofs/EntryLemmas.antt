@@ -5,11 +5,11 @@ use Rattle.std.proofs.lemmas.Option.{none-some, same_Some}
 use Rattle.std.proofs.lemmas.List.{map-append}
 use Rattle.bench_trait.specs.declared.bench.MeasureError.{MeasureError}
 use Rattle.bench_trait.specs.declared.bench.MeasureError.TheVariants.{Fault, NoMemory}
-use Rattle.session_runs.specs.Standing.{Move, Entry, opened, played, answered, failed, starved, Standing, next}
+use Rattle.session_runs.specs.Standing.{Move, Entry, opened, played, Standing, next}
 use Rattle.session_runs.specs.History.{standing_after}
 use Rattle.session_runs.specs.MoveOrder.{asks_in_order}
 use Rattle.session_runs.specs.Touches.{touch_of, sent_by}
-use Rattle.session_runs.specs.Schedule.{Walked, with_entry as with_entry_of, with_choice, nth_candidate, result_entry, results_first}
+use Rattle.session_runs.specs.Schedule.{with_entry as with_entry_of, with_choice, nth_candidate, result_entry, results_first}
 use Rattle.session_runs.specs.Played.{IsWalked as IsOfTable, AreWalked}
 use Rattle.session_runs.proofs.HistoryLaws.{after_more}
 use Rattle.session_book.specs.declared.entry.Entry.{Entry as Kept}

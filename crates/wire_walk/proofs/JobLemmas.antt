@@ -1,8 +1,7 @@
 -- Sessions that are walked over links one after another.
 use Rattle.std.proofs.Common.{◌≡◌, ℕ, zero, suc, ◌+◌, ◌≤◌, List, [], ◌∷◌, ◌++◌, refl, sym, ◌∙◌, ap, subst, arith}
-use Rattle.std.specs.Prelude.{true, false, Option, None, Some, Result, Ok, Err, nat_eq, if◌then◌else◌}
+use Rattle.std.specs.Prelude.{false, Option, Some, Result, Err, nat_eq, if◌then◌else◌}
 use Rattle.std.proofs.Math.Dec.{eqb-suc-zero}
-use Rattle.phrase_tree.specs.Numbering.{event_count}
 use Rattle.bench_trait.specs.declared.ask.Ask.{Ask}
 use Rattle.bench_trait.specs.declared.bench.BenchFault.{BenchFault}
 use Rattle.bench_trait.specs.declared.bench.MeasureError.{MeasureError}
@@ -15,10 +14,10 @@ use Rattle.session_runs.specs.Schedule.{Walked, is_starving, first_from}
 use Rattle.session_runs.specs.Results.{results_of}
 use Rattle.session_runs.specs.Played.{AreWalked}
 use Rattle.session_walk.specs.Records.{record_in}
-use Rattle.wire_manager.specs.WireSchedule.{Linked, linked_opened, Turn, Turned, ahead_of, turns, turns_at_most, one_by_one, wire_scheduled}
+use Rattle.wire_manager.specs.WireSchedule.{Linked, Turn, Turned, ahead_of, one_by_one}
 use Rattle.wire_walk.specs.declared.walk.Told.{Told}
-use Rattle.wire_walk.specs.UnderWay.{draws_zero, AreByZero, TakesTurns}
-use Rattle.wire_walk.specs.Told.{IsToldOf, IsWalkOfOne, AreToldOf, AreOfWireWalk}
+use Rattle.wire_walk.specs.UnderWay.{draws_zero, TakesTurns}
+use Rattle.wire_walk.specs.Told.{IsWalkOfOne, AreToldOf, AreOfWireWalk}
 use Rattle.wire_walk.proofs.TableLemmas.{table_of, table_walks}
 
 pub zero_first : (number : ℕ) → nat_eq number 0 ≡ draws_zero (first_from number)

@@ -1,5 +1,5 @@
 -- What is told of one session that was walked over links.
-use Rattle.std.proofs.Common.{◌≡◌, ℕ, ◌+◌, ◌*◌, List, [], refl, sym, ◌∙◌, ap, subst}
+use Rattle.std.proofs.Common.{◌≡◌, ℕ, List, [], sym, ◌∙◌, ap, subst}
 use Rattle.std.specs.Prelude.{Option, Some, map, length}
 use Rattle.phrase_tree.specs.Numbering.{event_count}
 use Rattle.bench_trait.specs.declared.artefacts.Artefact.{Artefact}
@@ -21,11 +21,11 @@ use Rattle.session_walk.specs.Records.{record_in}
 use Rattle.session_walk.specs.Sessions.{standing_or, walked_in}
 use Rattle.session_walk.proofs.JobLemmas.{opened_is}
 use Rattle.wire_manager.specs.Wire.{Wire}
-use Rattle.wire_manager.specs.WireSchedule.{Linked, linked_opened, turns_at_most}
+use Rattle.wire_manager.specs.WireSchedule.{linked_opened, turns_at_most}
 use Rattle.wire_walk.specs.declared.flight.Flight.{Flight}
 use Rattle.wire_walk.specs.declared.walk.Told.{Told}
 use Rattle.wire_walk.specs.UnderWay.{sent_at, linked_in, turn_of, IsWalked, TakesTurns}
-use Rattle.wire_walk.specs.Told.{IsToldOf, IsWalkOfOne}
+use Rattle.wire_walk.specs.Told.{IsWalkOfOne}
 use Rattle.wire_walk.proofs.FlightLemmas.{linked_is}
 use Rattle.wire_walk.proofs.JobLemmas.{fed_so, takes_as}
 

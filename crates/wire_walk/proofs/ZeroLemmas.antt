@@ -2,7 +2,7 @@
 use Rattle.std.proofs.Common.{◌≡◌, ℕ, inl, inr, List, [], ◌∷◌, ◌++◌, refl, sym, ◌∙◌, ap, subst}
 use Rattle.std.specs.Prelude.{Bool, true, false, Option, None, Some, nat_eq, ◌&&◌, ◌||◌, if◌then◌else◌}
 use Rattle.std.proofs.lemmas.Bool.{eq-eqb, and_from}
-use Rattle.std.proofs.lemmas.Option.{none-some, same_Some}
+use Rattle.std.proofs.lemmas.Option.{none-some}
 use Rattle.bench_trait.specs.declared.ask.Ask.{Ask}
 use Rattle.bench_trait.specs.Asking.{question_among}
 use Rattle.session_model.specs.Session.{Session, session_questions}
@@ -12,7 +12,7 @@ use Rattle.session_runs.specs.MoveOrder.{asks_in_order}
 use Rattle.session_runs.specs.Schedule.{Walked}
 use Rattle.session_runs.proofs.Induction.{Made}
 use Rattle.session_runs.proofs.EntryLaws.{some_is, made_is, no_standing, once_finished_any, where_open_is, if_standing}
-use Rattle.session_runs.proofs.ListingLaws.{IsAmong, among_contains, contains_among}
+use Rattle.session_runs.proofs.ListingLaws.{IsAmong, among_contains}
 use Rattle.std.specs.Prelude.{Contains, slice_get, ◌↔◌}
 use Rattle.session_core.specs.Reading.{question_of}
 use Rattle.session_walk.proofs.PlayingLemmas.{IsAskThere, event_of}

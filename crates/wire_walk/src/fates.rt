@@ -1,4 +1,4 @@
-ghost use Rattle.std.specs.Prelude.{◌≡◌, ◌≤◌, nat_lt, if◌then◌else◌};
+ghost use Rattle.std.specs.Prelude.{◌≡◌, if◌then◌else◌};
 ghost use Rattle.wire_manager.specs.WireSchedule.{fate_drawn, is_lost, stays, leaves};
 ghost use Rattle.wire_walk.specs.UnderWay.{fate_as, draws_zero};
 

@@ -1,5 +1,4 @@
-ghost use Rattle.std.specs.Prelude.{◌≡◌, ◌<◌, ◌-◌, [], None, Some, IfOk, OnOk, length, slice_get};
-ghost use Rattle.session_core.specs.declared.opened.Opened.{Opened};
+ghost use Rattle.std.specs.Prelude.{◌≡◌, ◌<◌, ◌-◌, [], None, Some, IfOk, OnOk, length};
 ghost use Rattle.wire_manager.specs.Framed.{frame_with};
 ghost use Rattle.wire_manager.specs.Messages.{Message};
 ghost use Rattle.wire_manager.specs.WireSchedule.{came, lost_one, message_at, met, fate_drawn};

@@ -3,8 +3,7 @@ ghost use Rattle.session_runs.specs.MoveOrder.{asks_in_order};
 ghost use Rattle.session_runs.specs.Standing.{is_open};
 ghost use Rattle.session_core.specs.Session.{keys_in, places_in, history};
 ghost use Rattle.session_walk.specs.Sessions.{IsOver, walked_in};
-ghost use Rattle.wire_manager.specs.Linked.{wire_moves};
-ghost use Rattle.wire_walk.specs.UnderWay.{linked_in, turn_of, draws_zero, AreBelow, AreOfZero, AreByZero, IsWalked, TakesEntry, TakesTurn};
+ghost use Rattle.wire_walk.specs.UnderWay.{linked_in, turn_of, draws_zero, AreOfZero, AreByZero, IsWalked, TakesEntry, TakesTurn};
 ghost use Rattle.wire_walk.specs.declared.flight.Flight.{Flight as Flying};
 
 use crate::flight::Flight;

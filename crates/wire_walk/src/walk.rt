@@ -1,4 +1,4 @@
-ghost use Rattle.std.specs.Prelude.{◌≡◌, ℕ, [], None, Some, IfOk, OnOk, map, slice_get};
+ghost use Rattle.std.specs.Prelude.{◌≡◌, ℕ, Some, IfOk, OnOk, map, slice_get};
 ghost use Rattle.place_check.specs.Places.{keys_of};
 ghost use Rattle.place_check.specs.Session.{CheckedSession, IsCheckedAgainst, session_of};
 ghost use Rattle.checked_sessions.specs.Named.{place_names};

@@ -1,7 +1,5 @@
-use Rattle.std.proofs.Common.{◌≡◌, sym, ◌∙◌, ap}
-use Rattle.std.specs.Prelude.{Some, slice_get}
-use Rattle.std.specs.Option.{option_map}
-use Rattle.wire_manager.specs.Link.{at_number}
+use Rattle.std.proofs.Common.{◌∙◌}
+use Rattle.std.specs.Prelude.{slice_get}
 use Rattle.wire_manager.specs.Framed.{frame_with, bytes_of}
 use Rattle.wire_walk.specs.UnderWay.{sent_at}
 use Rattle.wire_walk.proofs.SentLemmas.{if_ok, if_ok_on, on_any, sent_message, its_bytes}

@@ -1,6 +1,6 @@
 use Rattle.std.proofs.Common.{sym, ◌∙◌, ap}
 use Rattle.std.specs.Prelude.{slice_get}
-use Rattle.wire_walk.specs.UnderWay.{sent_at, linked_in}
+use Rattle.wire_walk.specs.UnderWay.{sent_at}
 use Rattle.wire_walk.proofs.ReadingLemmas.{on_ok}
 use Rattle.wire_walk.proofs.CameLemmas.{follows_so, lost_sent, lost_there_so}
 use Rattle.wire_walk.proofs.flying.lose.Goals as goal

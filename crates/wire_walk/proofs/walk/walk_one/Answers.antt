@@ -1,10 +1,9 @@
-use Rattle.std.proofs.Common.{◌≡◌, ◌+◌, ◌*◌, refl, ◌∙◌, ap, arith}
+use Rattle.std.proofs.Common.{◌≡◌, ◌+◌, ◌*◌, refl, ◌∙◌, ap}
 use Rattle.phrase_tree.specs.Numbering.{event_count}
 use Rattle.phrase_tree.specs.Term.{term}
 use Rattle.place_check.specs.Session.{session_of}
 use Rattle.session_walk.specs.Sessions.{walked_in}
 use Rattle.session_walk.proofs.PlayingLemmas.{stands_itself}
-use Rattle.wire_manager.specs.WireSchedule.{turns_at_most}
 use Rattle.wire_walk.proofs.OneLemmas.{told_so}
 use Rattle.wire_walk.proofs.walk.walk_one.Goals as goal
 

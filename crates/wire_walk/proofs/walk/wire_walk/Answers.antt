@@ -2,7 +2,6 @@ use Rattle.std.proofs.Common.{◌≡◌, ◌+◌, ◌∷◌, ◌++◌, [], List,
 use Rattle.std.proofs.lemmas.Option.{slice_get_read}
 use Rattle.std.proofs.lemmas.List.{take_more, take_all, map-append}
 use Rattle.session_runs.specs.Schedule.{first_from}
-use Rattle.session_model.specs.Session.{Session}
 use Rattle.place_check.specs.Places.{keys_of}
 use Rattle.place_check.specs.Session.{CheckedSession, session_of}
 use Rattle.checked_sessions.specs.Named.{place_names}
